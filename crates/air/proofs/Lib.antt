@@ -1,0 +1,2 @@
+-- the register over a whole byte
+pub mod Register

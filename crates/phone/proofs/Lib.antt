@@ -1,0 +1,10 @@
+-- the addresses still to be taken
+pub mod Addresses
+-- one TLV, and one after the other
+pub mod Steps
+-- addresses in rising order, and what of them is visible
+pub mod Rising
+-- what a walk finds lies so
+pub mod Lying
+-- what lies so is what the walk finds
+pub mod Only

@@ -1,0 +1,34 @@
+-- The areas that control TLVs name. A walk skips their addresses.
+use mathlib.Core.Bool.{Bool, cond, _&&_}
+use mathlib.Core.List.{List, [], _∷_}
+use Prim.Native.Nat.{ℕ, _+_, _*_, _/_, _%_, _^_}
+use lib.Dec.{eqb, ltb, leb}
+use Rattle.phone.specs.declared.area.Area.{Area}
+
+abbrev pub inside : Area → ℕ → Bool
+inside r a = leb (r .start) a && ltb a (r .stop)
+
+-- the addresses that do not lie in an area
+unfoldable pub outside : Area → List ℕ → List ℕ
+outside r [] = []
+outside r (a ∷ l) = cond (inside r a) (outside r l) (a ∷ outside r l)
+
+-- An area starts at the position's high digit times two to the power of the control's low digit, plus the position's low digit.
+unfoldable pub starts : ℕ → ℕ → ℕ
+starts position control = position / 16 * 2 ^ (control % 16) + position % 16
+
+-- a size of 0 stands for 256
+abbrev pub full : ℕ → ℕ
+full size = cond (eqb size 0) 256 size
+
+-- n lock bits from address a on: they round up to bytes, and every block of four addresses that these touch is taken
+abbrev pub lock-area : ℕ → ℕ → Area
+lock-area a n = record { start = a / 4 * 4; stop = (a + (n + 7) / 8 + 3) / 4 * 4 }
+
+-- n reserved bytes from address a on
+abbrev pub reserved-area : ℕ → ℕ → Area
+reserved-area a n = record { start = a; stop = a + n }
+
+-- the area that a control TLV names: of lock bits for type 01h, of reserved bytes for type 02h
+unfoldable pub named : ℕ → ℕ → ℕ → ℕ → Area
+named kind position size control = cond (eqb kind 1) (lock-area (starts position control) (full size)) (reserved-area (starts position control) (full size))

@@ -1,0 +1,8 @@
+-- areas that control TLVs name
+pub mod Areas
+-- the addresses that a walk has still to take
+pub mod Cursors
+-- the rules of a picture's layout
+pub mod Layout
+-- how TLVs lie in a picture, said without a walk
+pub mod Tiling

@@ -1,0 +1,51 @@
+// Areas that control TLVs name, of lock bits or of reserved bytes: a walk skips them.
+ghost use mathlib.Core.Path.{_≡_};
+ghost use Prim.Native.Nat.{_<_, _≤_};
+ghost use Rattle.phone.specs.Areas.{inside, starts, full, named};
+
+pub(crate) const LOCK_CONTROL: u8 = 0x01;
+pub(crate) const MEMORY_CONTROL: u8 = 0x02;
+
+// Addresses from `start` up to `stop`, without `stop`.
+#[derive(Clone, Copy)]
+pub(crate) struct Area {
+    start: u32,
+    stop: u32,
+}
+
+// Where the area of a control TLV starts: the high digit of the position, shifted, and its low digit.
+fn start_of(position: u8, control: u8) -> u32
+    ensures value { λ r. ⌜ r ≡ starts position control ⌝ }
+    ensures bound { λ r. ⌜ r < 2000000 ⌝ }
+{
+    (u32::from(position >> 4) << (control & 15)) + u32::from(position & 15)
+}
+
+// A size of 0 stands for 256.
+fn full_size(size: u8) -> u32
+    ensures value { λ r. ⌜ r ≡ full size ⌝ }
+    ensures bound { λ r. ⌜ r ≤ 256 ⌝ }
+{
+    if size == 0 { 256 } else { u32::from(size) }
+}
+
+// The area that a control TLV names: all blocks that its lock bits touch, or its reserved bytes.
+pub(crate) fn named_area(kind: u8, position: u8, size: u8, control: u8) -> Area
+    ensures value { λ r. ⌜ r ≡ named kind position size control ⌝ }
+{
+    let start = start_of(position, control);
+    let size = full_size(size);
+    if kind == LOCK_CONTROL {
+        Area { start: start / 4 * 4, stop: (start + (size + 7) / 8 + 3) / 4 * 4 }
+    } else {
+        Area { start, stop: start + size }
+    }
+}
+
+impl Area {
+    pub(crate) fn holds(self, address: u16) -> bool
+        ensures value { λ r. ⌜ r ≡ inside self address ⌝ }
+    {
+        self.start <= u32::from(address) && u32::from(address) < self.stop
+    }
+}

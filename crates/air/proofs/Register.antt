@@ -118,7 +118,7 @@ formula : (x : ℕ) → x < 256 → turns 8 x ≡ above x * 256 + below x
 unfolding all
 formula x h =
     decides-below-and (λ n. eqb (turns 8 n) (above n * 256 + below n)) (λ n. turns 8 n ≡ above n * 256 + below n) all
-        (λ n. decides-eqb (turns 8 n) (above n * 256 + below n)) refl (λ _. refl) 256 .0 refl x h
+    (λ n. decides-eqb (turns 8 n) (above n * 256 + below n)) refl (λ _. refl) 256 .0 refl x h
 
 -- a byte added to a number changes its low byte alone
 low-only : (h a b : ℕ) → h < 256 → b < 256 → bitXor h (a * 256 + b) ≡ a * 256 + bitXor h b

@@ -9,7 +9,10 @@ struct Register {
     high: u8,
 }
 
-const INITIAL: Register = Register { low: 0x63, high: 0x63 };
+const INITIAL: Register = Register {
+    low: 0x63,
+    high: 0x63,
+};
 
 // The register after the eight bits of a byte, all at once.
 fn fed(register: Register, byte: u8) -> Register
@@ -17,7 +20,10 @@ fn fed(register: Register, byte: u8) -> Register
 {
     let sum = register.low ^ byte;
     let mixed = sum ^ (sum << 4);
-    Register { low: register.high ^ (mixed << 3) ^ (mixed >> 4), high: mixed ^ (mixed >> 5) }
+    Register {
+        low: register.high ^ (mixed << 3) ^ (mixed >> 4),
+        high: mixed ^ (mixed >> 5),
+    }
 }
 
 // CRC_A of a run of bytes; its low byte is sent first.

@@ -39,7 +39,7 @@ unfolding free outside
 free-outside r s t zero a h = refl
 free-outside r s t (suc n) a h =
     one-outside a r (free s (suc a) n) (free t (suc a) n) (getD t a false) (getD s a false) (inside r a) (h a (omega arith) (omega arith)) refl
-        (free-outside r s t n (suc a) (λ k l m. h k (omega arith) (omega arith)))
+    (free-outside r s t n (suc a) (λ k l m. h k (omega arith) (omega arith)))
 
 pub rest-drop : (i : ℕ) (l : List ℕ) → rest (drop i l) ≡ drop (i + 1) l
 rest-drop zero [] = refl

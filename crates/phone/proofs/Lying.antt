@@ -40,10 +40,15 @@ behind pic e m more w p r s =
     let v1 = front-visible pic m more ms p r (λ a h. s .later a (all-pruned (λ x. a < x) pic m more h)) (s .passed) in
     let v2 = pruning pic m more ms p r in
     record {
-        before = m ∷ ms; rest = s .rest; last = s .last;
-        tiles = visible-++ pic (m ∷ ms) m more ∙ ap (λ z. z ++ visible pic (m ∷ ms) more) v1 ∙ ap (λ z. m ++ z) (v2 ∙ s .tiles) ∙ sym (append-assoc m (joined (λ x. x) ms) (s .rest));
-        passed = (p, s .passed); ends = s .ends; finds = ap (onto (entry pic m)) (s .finds);
-        later = λ b h. (above-left b m more h, s .later b (all-pruned (λ x. b < x) pic m more (above-right b m more h))) }
+      before = m ∷ ms;
+      rest = s .rest;
+      last = s .last;
+      tiles = visible-++ pic (m ∷ ms) m more ∙ ap (λ z. z ++ visible pic (m ∷ ms) more) v1 ∙ ap (λ z. m ++ z) (v2 ∙ s .tiles) ∙ sym (append-assoc m (joined (λ x. x) ms) (s .rest));
+      passed = (p, s .passed);
+      ends = s .ends;
+      finds = ap (onto (entry pic m)) (s .finds);
+      later = λ b h. (above-left b m more h, s .later b (all-pruned (λ x. b < x) pic m more (above-right b m more h)));
+    }
 
 -- a TLV that is read is whole
 
@@ -60,23 +65,29 @@ record Reads (pic l : List ℕ) (t : Tlv) : Type 0 where
 pub pruned-same : (pic : List ℕ) (x q n : ℕ) (vs : List ℕ) → (control (getD pic x 0) ≡ true → n ≡ 3) → cleared pic (getD pic x 0) n vs ≡ pruned pic (x ∷ q ∷ take n vs) (drop n vs)
 pruned-same pic x q n vs h =
     ⊎-elim
-        (λ t.
-            let n3 = h t in
-            let g0 : getD (take n vs) 0 0 ≡ getD vs 0 0 = getD-take n vs 0 0 (omega arith) in
-            let g1 : getD (take n vs) 1 0 ≡ getD vs 1 0 = getD-take n vs 1 0 (omega arith) in
-            let g2 : getD (take n vs) 2 0 ≡ getD vs 2 0 = getD-take n vs 2 0 (omega arith) in
-            let k : ℕ = getD pic x 0 in
-            let e : named k (getD pic (getD (take n vs) 0 0) 0) (getD pic (getD (take n vs) 1 0) 0) (getD pic (getD (take n vs) 2 0) 0) ≡ named-in pic k vs = cc in
-            cond-true _ _ _ t ∙ sym (cond-true _ _ _ t ∙ ap (λ z. outside z (drop n vs)) e))
-        (λ f. cond-false _ _ _ f ∙ sym (cond-false _ _ _ f)) (cases-bool (control (getD pic x 0)))
+    (λ t.
+    let n3 = h t in
+    let g0 : getD (take n vs) 0 0 ≡ getD vs 0 0 = getD-take n vs 0 0 (omega arith) in
+    let g1 : getD (take n vs) 1 0 ≡ getD vs 1 0 = getD-take n vs 1 0 (omega arith) in
+    let g2 : getD (take n vs) 2 0 ≡ getD vs 2 0 = getD-take n vs 2 0 (omega arith) in
+    let k : ℕ = getD pic x 0 in
+    let e : named k (getD pic (getD (take n vs) 0 0) 0) (getD pic (getD (take n vs) 1 0) 0) (getD pic (getD (take n vs) 2 0) 0) ≡ named-in pic k vs = cc in
+    cond-true _ _ _ t ∙ sym (cond-true _ _ _ t ∙ ap (λ z. outside z (drop n vs)) e))
+    (λ f. cond-false _ _ _ f ∙ sym (cond-false _ _ _ f)) (cases-bool (control (getD pic x 0)))
 
 null-read : (pic : List ℕ) (x : ℕ) (l : List ℕ) (t : Tlv) → getD pic x 0 ≡ 0 → record { at = x; kind = 0; length = 0; place = x + 1 } ≡ t → Reads pic (x ∷ l) t
 null-read pic x l t k h =
     let kd : t .kind ≡ 0 = sym (ap (λ (z : Tlv). z .kind) h) in
     record {
-        mine = x ∷ []; more = l; split = refl; form = inl (record { is-null = k; alone = refl }); not-end = λ e. omega arith;
-        on = cond-true _ _ _ (eq-eqb _ _ k) ∙ sym (cond-false _ _ _ (ap control k));
-        is-entry = cond-true _ _ _ (eq-eqb _ _ k) ∙ h; is-type = kd ∙ sym k }
+      mine = x ∷ [];
+      more = l;
+      split = refl;
+      form = inl (record { is-null = k; alone = refl });
+      not-end = λ e. omega arith;
+      on = cond-true _ _ _ (eq-eqb _ _ k) ∙ sym (cond-false _ _ _ (ap control k));
+      is-entry = cond-true _ _ _ (eq-eqb _ _ k) ∙ h;
+      is-type = kd ∙ sym k;
+    }
 
 sized-read : (pic : List ℕ) (x : ℕ) (l : List ℕ) (t : Tlv) → (getD pic x 0 ≡ 0 → ⊥) → (getD pic x 0 ≡ 0xfe → ⊥) → sized pic x (getD pic x 0) l ≡ Ok t → Reads pic (x ∷ l) t
 sized-read pic x [] t z f h = let y : _≡_ {A = ℕ} 0 1 = cc in let b : ⊥ = omega arith in absurd b
@@ -90,20 +101,24 @@ sized-read pic x (q ∷ vs) t z f h =
     let th : control k ≡ true → n ≡ 3 = λ y. eqb-true n 3 (then-three (control k) (eqb n 3) (b .0) y) in
     let lt = length-take-le n vs en in
     record {
-        mine = x ∷ q ∷ take n vs; more = drop n vs; split = ap (λ y. x ∷ q ∷ y) (sym (take-append-drop n vs));
-        form = inr (record { full = omega arith; not-null = z; not-long = eqb-false n 255 (a .0); three = th });
-        not-end = f;
-        on = cond-false _ _ _ (ne-eqb _ _ z) ∙ pruned-same pic x q n vs th;
-        is-entry = cond-false _ _ _ (ne-eqb _ _ z) ∙ c .1; is-type = sym (ap (λ (y : Tlv). y .kind) (c .1)) }
+      mine = x ∷ q ∷ take n vs;
+      more = drop n vs;
+      split = ap (λ y. x ∷ q ∷ y) (sym (take-append-drop n vs));
+      form = inr (record { full = omega arith; not-null = z; not-long = eqb-false n 255 (a .0); three = th });
+      not-end = f;
+      on = cond-false _ _ _ (ne-eqb _ _ z) ∙ pruned-same pic x q n vs th;
+      is-entry = cond-false _ _ _ (ne-eqb _ _ z) ∙ c .1;
+      is-type = sym (ap (λ (y : Tlv). y .kind) (c .1));
+    }
 
 reads : (pic : List ℕ) (e : ℕ) (l : List ℕ) (t : Tlv) → tlv pic e l ≡ Ok t → Reads pic l t
 reads pic e [] t h = let y : _≡_ {A = ℕ} 0 1 = cc in let b : ⊥ = omega arith in absurd b
 reads pic e (x ∷ l) t h =
     ⊎-elim
-        (λ p. null-read pic x l t (eqb-true (getD pic x 0) 0 (p .0)) (p .1))
-        (λ p. let q = ok-right (eqb (getD pic x 0) 0xfe) (Layout 13 x) _ t (p .1) in
-            sized-read pic x l t (eqb-false (getD pic x 0) 0 (p .0)) (eqb-false (getD pic x 0) 0xfe (q .0)) (q .1))
-        (ok-either (eqb (getD pic x 0) 0) _ _ t h)
+    (λ p. null-read pic x l t (eqb-true (getD pic x 0) 0 (p .0)) (p .1))
+    (λ p. let q = ok-right (eqb (getD pic x 0) 0xfe) (Layout 13 x) _ t (p .1) in
+    sized-read pic x l t (eqb-false (getD pic x 0) 0 (p .0)) (eqb-false (getD pic x 0) 0xfe (q .0)) (q .1))
+    (ok-either (eqb (getD pic x 0) 0) _ _ t h)
 
 -- a message that is read stands first
 
@@ -122,8 +137,16 @@ sized-meets pic x (q ∷ vs) t z h k3 =
     let F : ℕ → Tlv = λ y. record { at = x; kind = y; length = n; place = q + 1 } in
     let lt = length-take-le n vs en in
     let r : Meets pic (x ∷ q ∷ vs) (met u vs) = record {
-        type-at = x; length-at = q; behind = drop n vs; split = ap (λ y. x ∷ q ∷ y) (sym (take-append-drop n vs)); is-message = ku; not-long = eqb-false n 255 (a .0);
-        whole = lt; answers = refl; lists = ap (λ y. F y ∷ []) ku } in
+      type-at = x;
+      length-at = q;
+      behind = drop n vs;
+      split = ap (λ y. x ∷ q ∷ y) (sym (take-append-drop n vs));
+      is-message = ku;
+      not-long = eqb-false n 255 (a .0);
+      whole = lt;
+      answers = refl;
+      lists = ap (λ y. F y ∷ []) ku;
+    } in
     let r2 : Meets pic (x ∷ q ∷ vs) (met t vs) = subst (λ y. Meets pic (x ∷ q ∷ vs) (met y vs)) (c .1) r in
     subst (λ y. Meets pic (x ∷ q ∷ vs) (met t y)) (sym v) r2
 
@@ -131,9 +154,9 @@ meets : (pic : List ℕ) (e : ℕ) (l : List ℕ) (t : Tlv) → tlv pic e l ≡ 
 meets pic e [] t h k = let y : _≡_ {A = ℕ} 0 1 = cc in let b : ⊥ = omega arith in absurd b
 meets pic e (x ∷ l) t h k =
     ⊎-elim
-        (λ p. let y = ap (λ (z : Tlv). z .kind) (p .1) in let b : ⊥ = omega arith in absurd b)
-        (λ p. sized-meets pic x l t (p .0) (ok-right (eqb (getD pic x 0) 0xfe) (Layout 13 x) _ t (p .1) .1) k)
-        (ok-either (eqb (getD pic x 0) 0) _ _ t h)
+    (λ p. let y = ap (λ (z : Tlv). z .kind) (p .1) in let b : ⊥ = omega arith in absurd b)
+    (λ p. sized-meets pic x l t (p .0) (ok-right (eqb (getD pic x 0) 0xfe) (Layout 13 x) _ t (p .1) .1) k)
+    (ok-either (eqb (getD pic x 0) 0) _ _ t h)
 
 -- a fault is the one of what stands first
 
@@ -159,15 +182,15 @@ sized-fails pic e x (q ∷ vs) f y h =
     let k : ℕ = getD pic x 0 in
     let P : Fault → Type 0 = Fails pic e (x ∷ q ∷ vs) in
     ⊎-elim
-        (λ a. subst P (a .1) (long x q vs y (eqb-true n 255 (a .0))))
-        (λ a. ⊎-elim
-            (λ b. let p = and-parts (control k) (not (eqb n 3)) (b .0) in
-                subst P (b .1) (not-three x q vs (p .0) (eqb-false n 255 (a .0)) (eqb-false n 3 (not-true (eqb n 3) (p .1)))))
-            (λ b. let c = err-past (leb n (length vs)) _ f _ (b .1) in
-                subst P (same-fault (Layout 11 x) f (c .1))
-                    (cut-short x q vs y (eqb-false n 255 (a .0)) (λ z. eqb-true n 3 (then-three (control k) (eqb n 3) (b .0) z)) (leb-false n (length vs) (c .0))))
-            (err-right (control k && not (eqb n 3)) (Layout 10 x) f _ (a .1)))
-        (err-right (eqb n 255) (Layout 12 x) f _ h)
+    (λ a. subst P (a .1) (long x q vs y (eqb-true n 255 (a .0))))
+    (λ a. ⊎-elim
+    (λ b. let p = and-parts (control k) (not (eqb n 3)) (b .0) in
+    subst P (b .1) (not-three x q vs (p .0) (eqb-false n 255 (a .0)) (eqb-false n 3 (not-true (eqb n 3) (p .1)))))
+    (λ b. let c = err-past (leb n (length vs)) _ f _ (b .1) in
+    subst P (same-fault (Layout 11 x) f (c .1))
+    (cut-short x q vs y (eqb-false n 255 (a .0)) (λ z. eqb-true n 3 (then-three (control k) (eqb n 3) (b .0) z)) (leb-false n (length vs) (c .0))))
+    (err-right (control k && not (eqb n 3)) (Layout 10 x) f _ (a .1)))
+    (err-right (eqb n 255) (Layout 12 x) f _ h)
 
 fails : (pic : List ℕ) (e : ℕ) (l : List ℕ) (f : Fault) → tlv pic e l ≡ Err f → Fails pic e l f
 fails pic e [] f h = subst (Fails pic e []) (same-fault (Layout 13 e) f h) nothing-left
@@ -175,9 +198,9 @@ fails pic e (x ∷ l) f h =
     let k : ℕ = getD pic x 0 in
     let a = err-past (eqb k 0) _ f _ h in
     ⊎-elim
-        (λ b. subst (Fails pic e (x ∷ l)) (b .1) (terminated x l (eqb-true k 0xfe (b .0))))
-        (λ b. sized-fails pic e x l f (record { not-null = eqb-false k 0 (a .0); not-end = eqb-false k 0xfe (b .0) }) (b .1))
-        (err-right (eqb k 0xfe) (Layout 13 x) f _ (a .1))
+    (λ b. subst (Fails pic e (x ∷ l)) (b .1) (terminated x l (eqb-true k 0xfe (b .0))))
+    (λ b. sized-fails pic e x l f (record { not-null = eqb-false k 0 (a .0); not-end = eqb-false k 0xfe (b .0) }) (b .1))
+    (err-right (eqb k 0xfe) (Layout 13 x) f _ (a .1))
 
 -- the whole walk
 
@@ -201,17 +224,18 @@ lays : (pic : List ℕ) (e n : ℕ) (l : List ℕ) → Rising l → length l < n
 unfolding walks
 lays pic e zero l u h = let b : ⊥ = omega arith in absurd b
 lays pic e (suc n) l u h =
-    elim (tlv pic e l) as (λ r. tlv pic e l ≡ r → Rest pic e l (going (valued pic l) r (walks pic e n (beyond pic l))))
-        [ Ok t ↦ λ q.
-            let r = reads pic e l t q in
-            let s = shorter pic e l (ap isOk q) in
-            ⊎-elim
-                (λ b. subst (Rest pic e l) (sym (cond-true _ _ _ b)) (at-end pic e l (met t (valued pic l)) (inl (meets pic e l t q (eqb-true _ _ b)))))
-                (λ b. subst (Rest pic e l) (sym (cond-false _ _ _ b))
-                    (passing pic e l t (walks pic e n (beyond pic l)) u r (eqb-false _ _ b) (lays pic e n (beyond pic l) (rising-beyond pic l t u r) (omega arith))))
-                (cases-bool (eqb (t .kind) 3))
-        | Err f ↦ λ q. at-end pic e l (failed f) (inr (f, fails pic e l f q, refl)) ]
-        refl
+    elim (tlv pic e l) as (λ r. tlv pic e l ≡ r → Rest pic e l (going (valued pic l) r (walks pic e n (beyond pic l)))) [
+      | Ok t ↦ λ q.
+          let r = reads pic e l t q in
+          let s = shorter pic e l (ap isOk q) in
+          ⊎-elim
+          (λ b. subst (Rest pic e l) (sym (cond-true _ _ _ b)) (at-end pic e l (met t (valued pic l)) (inl (meets pic e l t q (eqb-true _ _ b)))))
+          (λ b. subst (Rest pic e l) (sym (cond-false _ _ _ b))
+          (passing pic e l t (walks pic e n (beyond pic l)) u r (eqb-false _ _ b) (lays pic e n (beyond pic l) (rising-beyond pic l t u r) (omega arith))))
+          (cases-bool (eqb (t .kind) 3))
+      | Err f ↦ λ q. at-end pic e l (failed f) (inr (f, fails pic e l f q, refl))
+    ]
+    refl
 
 pub lies : (pic : List ℕ) → Lies pic (walk-over pic (area-end pic) (area pic))
 lies pic =

@@ -18,7 +18,7 @@ use Rattle.air.specs.declared.fault.Fault.the-variants.{Call, Layout}
 use Rattle.phone.specs.declared.layout.Tlv.{Tlv}
 use Rattle.phone.specs.declared.layout.Message.{Message}
 use Rattle.phone.specs.Layout.{accepted, area, area-end, control, cleared, sized, tlv, valued, beyond, Findings, failed, met, onto, walk-over, walked}
-use Rattle.phone.specs.Tiling.{type-of, length-of, Null, Sized, Passed, entry, hidden, visible, Meets, Lengthy, Fails, nothing-left, terminated, no-length, long, not-three, cut-short, Ends, found, Lies, Read-off}
+use Rattle.phone.specs.Tiling.{type-of, length-of, Null, Sized, Passed, entry, hidden, visible, Meets, Lengthy, Fails, nothing-left, terminated, no-length, long, not-three, cut-short, Ends, found, Lies, Laid-out, Read-off}
 use Rattle.phone.proofs.Steps.{walk-fails, walk-meets, walk-passes}
 use Rattle.phone.proofs.Rising.{Above, Rising, above-left, rising-left, rising-right, crossing, rising-area, pruned, rising-pruned, visible-nil, all-visible, rising-visible, pruning, five, fifth, hides-control, hidden-all-past}
 use Rattle.phone.proofs.Lying.{pruned-same, lies}
@@ -79,11 +79,12 @@ sized-written pic e (x ∷ q ∷ v) more s h =
     let z = ne-eqb k 0 (s .not-null) in
     let n3 : (control k && not (eqb n 3)) ≡ false = and-not (control k) (eqb n 3) (λ y. eq-eqb n 3 (th y)) in
     let p : cleared pic k n (v ++ more) ≡ pruned pic (x ∷ q ∷ v) more =
-        pruned-same pic x q n (v ++ more) th ∙ ap (λ y. pruned pic (x ∷ q ∷ y) (drop n (v ++ more))) (take-at v more n ln) ∙ ap (λ y. pruned pic (x ∷ q ∷ v) y) (drop-at v more n ln) in
+    pruned-same pic x q n (v ++ more) th ∙ ap (λ y. pruned pic (x ∷ q ∷ y) (drop n (v ++ more))) (take-at v more n ln) ∙ ap (λ y. pruned pic (x ∷ q ∷ v) y) (drop-at v more n ln) in
     record {
-        value = lengthy pic e x (q ∷ (v ++ more)) (record { not-null = s .not-null; not-end = h }) ∙ cond-false _ _ _ (ne-eqb n 255 (s .not-long)) ∙ cond-false _ _ _ n3 ∙ cond-true _ _ _ (le-leb n (length (v ++ more)) en)
-            ∙ ap Ok (sym (cond-false _ _ _ z));
-        on = cond-false _ _ _ z ∙ p }
+      value = lengthy pic e x (q ∷ (v ++ more)) (record { not-null = s .not-null; not-end = h }) ∙ cond-false _ _ _ (ne-eqb n 255 (s .not-long)) ∙ cond-false _ _ _ n3 ∙ cond-true _ _ _ (le-leb n (length (v ++ more)) en)
+          ∙ ap Ok (sym (cond-false _ _ _ z));
+      on = cond-false _ _ _ z ∙ p;
+    }
 
 written : (pic : List ℕ) (e : ℕ) (m more : List ℕ) → Passed pic m → Written pic e m more
 written pic e m more p = ⊎-elim (λ n. null-written pic e m more n) (λ s. sized-written pic e m more s (p .not-end)) (p .form)
@@ -111,12 +112,12 @@ message-first pic e l w h =
     let g = walk-meets pic e (m ++ h .behind) (entry pic m) (wr .value) en in
     let nz = ne-eqb _ _ nn in
     let is-entry : entry pic m ≡ record { at = t; kind = 3; length = n; place = q + 1 } =
-        let F : ℕ → Tlv = λ y. record { at = t; kind = y; length = n; place = q + 1 } in cond-false _ _ _ nz ∙ ap F k in
+    let F : ℕ → Tlv = λ y. record { at = t; kind = y; length = n; place = q + 1 } in cond-false _ _ _ nz ∙ ap F k in
     let v : valued pic (m ++ h .behind) ≡ w .value ++ h .behind = cond-false _ _ _ nz in
     let x : met (entry pic m) (valued pic (m ++ h .behind)) ≡ met (record { at = t; kind = 3; length = n; place = q + 1 }) (w .value ++ h .behind) =
-        ap (λ y. met y (valued pic (m ++ h .behind))) is-entry ∙ ap (met (record { at = t; kind = 3; length = n; place = q + 1 })) v in
+    ap (λ y. met y (valued pic (m ++ h .behind))) is-entry ∙ ap (met (record { at = t; kind = 3; length = n; place = q + 1 })) v in
     let y : met (record { at = t; kind = 3; length = n; place = q + 1 }) (w .value ++ h .behind) ≡ w =
-        same-findings _ w (sym (h .lists)) (take-at (w .value) (h .behind) n wh) (sym (h .answers)) in
+    same-findings _ w (sym (h .lists)) (take-at (w .value) (h .behind) n wh) (sym (h .answers)) in
     ap (walk-over pic e) (h .split) ∙ g ∙ x ∙ y
 
 end-first : (pic : List ℕ) (e : ℕ) (l : List ℕ) (w : Findings) → Ends pic e l w → walk-over pic e l ≡ w
@@ -139,29 +140,29 @@ front pic ms l [] xs u v h = record { more = l; split = refl; then = v }
 front pic ms [] (y ∷ m) xs u v h = let z : _≡_ {A = ℕ} 0 1 = cc in let b : ⊥ = omega arith in absurd b
 front pic ms (x ∷ l) (y ∷ m) xs u v h =
     ⊎-elim
-        (λ t.
-            let e : visible pic ms l ≡ y ∷ (m ++ xs) = sym (cond-true _ _ _ t) ∙ v in
-            let w : Above x (y ∷ (m ++ xs)) = subst (Above x) e (all-visible (λ a. x < a) pic ms l (u .0)) in
-            let p = w .0 in
-            let q = h x t .0 in
-            let z : ⊥ = omega arith in absurd z)
-        (λ f.
-            let e = head-same x y (visible pic ms l) (m ++ xs) (sym (cond-false _ _ _ f) ∙ v) in
-            let r = front pic ms l m xs (u .1) (e .1) (λ a k. h a k .1) in
-            let s : x ∷ l ≡ y ∷ (m ++ r .more) = let p = e .0 in let q = r .split in cc in
-            record { more = r .more; split = s; then = r .then })
-        (cases-bool (hidden pic ms x))
+    (λ t.
+    let e : visible pic ms l ≡ y ∷ (m ++ xs) = sym (cond-true _ _ _ t) ∙ v in
+    let w : Above x (y ∷ (m ++ xs)) = subst (Above x) e (all-visible (λ a. x < a) pic ms l (u .0)) in
+    let p = w .0 in
+    let q = h x t .0 in
+    let z : ⊥ = omega arith in absurd z)
+    (λ f.
+    let e = head-same x y (visible pic ms l) (m ++ xs) (sym (cond-false _ _ _ f) ∙ v) in
+    let r = front pic ms l m xs (u .1) (e .1) (λ a k. h a k .1) in
+    let s : x ∷ l ≡ y ∷ (m ++ r .more) = let p = e .0 in let q = r .split in cc in
+    record { more = r .more; split = s; then = r .then })
+    (cases-bool (hidden pic ms x))
 
 past : (pic x : List ℕ) (ms : List (List ℕ)) (r : List ℕ) → Passed pic x → All (Passed pic) ms → Rising x → All (λ y. Above y (joined (λ y. y) ms ++ r)) x → (a : ℕ) → hidden pic (x ∷ ms) a ≡ true → All (λ y. y < a) x
 unfolding hidden
 past pic x ms r px p ux cr a h =
     ⊎-elim
-        (λ t. let q = hides-control pic x a t in
-            let n = five pic x px (q .0) in
-            let e = q .1 in
-            all-weaker (λ y. y ≤ getD x 4 0) (λ y. y < a) (λ y d. omega arith) x (fifth x ux n))
-        (λ t. hidden-all-past pic ms a x r p cr t)
-        (or-cases _ _ h)
+    (λ t. let q = hides-control pic x a t in
+    let n = five pic x px (q .0) in
+    let e = q .1 in
+    all-weaker (λ y. y ≤ getD x 4 0) (λ y. y < a) (λ y d. omega arith) x (fifth x ux n))
+    (λ t. hidden-all-past pic ms a x r p cr t)
+    (or-cases _ _ h)
 
 finds : (pic : List ℕ) (e : ℕ) (ms : List (List ℕ)) (l rest : List ℕ) (w : Findings) → Rising l → visible pic ms l ≡ joined (λ x. x) ms ++ rest → All (Passed pic) ms → Ends pic e rest w → walk-over pic e l ≡ found pic ms w
 finds pic e [] l rest w u v p d = ap (walk-over pic e) (sym (visible-nil pic l) ∙ v) ∙ end-first pic e rest w d
@@ -182,13 +183,17 @@ finds pic e (x ∷ ms) l rest w u v p d =
 pub only : (pic : List ℕ) (w : Findings) → Lies pic w → w ≡ walk-over pic (area-end pic) (area pic)
 only pic w d = d .finds ∙ sym (finds pic (area-end pic) (d .before) (area pic) (d .rest) (d .last) (rising-area pic) (d .tiles) (d .passed) (d .ends))
 
--- the answer of a walk is read off its picture
-pub read-off : (pic : List ℕ) (r : Result Message Fault) → r ≡ walked pic .answer → Read-off pic r
-read-off pic r h =
+-- what is found in a picture is laid out there
+pub laid-out : (pic : List ℕ) → Laid-out pic (walked pic)
+laid-out pic =
     let w : Findings = walk-over pic (area-end pic) (area pic) in
     let on : length pic ≡ 256 → accepted pic ≡ true → walked pic ≡ w = λ l a. cond-true _ _ _ (eq-eqb _ _ l) ∙ cond-true _ _ _ a in
     record {
-        no-picture = λ n. h ∙ ap (λ (z : Findings). z .answer) (cond-false _ _ _ (ne-eqb _ _ n));
-        no-container = λ l a. h ∙ ap (λ (z : Findings). z .answer) (cond-true _ _ _ (eq-eqb _ _ l) ∙ cond-false _ _ _ a);
-        lies = λ l a. (w, lies pic, sym (h ∙ ap (λ (z : Findings). z .answer) (on l a)));
-        only = λ l a v d. ap (λ (z : Findings). z .answer) (only pic v d ∙ sym (on l a)) ∙ sym h }
+      no-picture = λ n. cond-false _ _ _ (ne-eqb _ _ n);
+      no-container = λ l a. cond-true _ _ _ (eq-eqb _ _ l) ∙ cond-false _ _ _ a;
+      lies = λ l a. subst (Lies pic) (sym (on l a)) (lies pic);
+      only = λ l a v d. only pic v d ∙ sym (on l a);
+    }
+
+pub read-off : (pic : List ℕ) (r : Result Message Fault) → r ≡ walked pic .answer → Read-off pic r
+read-off pic r h = record { found-there = walked pic; laid-out = laid-out pic; answer-is = h }

@@ -69,7 +69,7 @@ unfolding outside
 rising-outside r [] h = tt
 rising-outside r (x ∷ l) h =
     elim (inside r x) as (λ b. Rising (cond b (outside r l) (x ∷ outside r l)))
-        [ true ↦ rising-outside r l (h .1) | false ↦ (all-outside (λ a. x < a) r l (h .0), rising-outside r l (h .1)) ]
+    [ true ↦ rising-outside r l (h .1) | false ↦ (all-outside (λ a. x < a) r l (h .0), rising-outside r l (h .1)) ]
 
 -- the area that a control TLV names
 abbrev pub area-of : List ℕ → List ℕ → Area
@@ -94,7 +94,7 @@ visible-++ pic ms [] ys = refl
 visible-++ pic ms (x ∷ xs) ys =
     let h = visible-++ pic ms xs ys in
     elim (hidden pic ms x) as (λ b. cond b (visible pic ms (xs ++ ys)) (x ∷ visible pic ms (xs ++ ys)) ≡ cond b (visible pic ms xs) (x ∷ visible pic ms xs) ++ visible pic ms ys)
-        [ true ↦ h | false ↦ ap (λ z. x ∷ z) h ]
+    [ true ↦ h | false ↦ ap (λ z. x ∷ z) h ]
 
 pub visible-all : (pic : List ℕ) (ms : List (List ℕ)) (xs : List ℕ) → All (λ a. hidden pic ms a ≡ false) xs → visible pic ms xs ≡ xs
 unfolding visible
@@ -117,7 +117,7 @@ unfolding visible
 rising-visible pic ms [] h = tt
 rising-visible pic ms (x ∷ l) h =
     elim (hidden pic ms x) as (λ b. Rising (cond b (visible pic ms l) (x ∷ visible pic ms l)))
-        [ true ↦ rising-visible pic ms l (h .1) | false ↦ (all-visible (λ a. x < a) pic ms l (h .0), rising-visible pic ms l (h .1)) ]
+    [ true ↦ rising-visible pic ms l (h .1) | false ↦ (all-visible (λ a. x < a) pic ms l (h .0), rising-visible pic ms l (h .1)) ]
 
 -- a control TLV in front hides as much as it prunes
 prunes : (pic m : List ℕ) (ms : List (List ℕ)) (c : Bool) (r : Area) (l : List ℕ) → All (λ a. hides pic m a ≡ (c && inside r a)) l → visible pic (m ∷ ms) l ≡ visible pic ms (cond c (outside r l) l)
@@ -132,16 +132,16 @@ prunes pic m ms true r (x ∷ l) h =
     let i = prunes pic m ms true r l (h .1) in
     let e : (hides pic m x || hidden pic ms x) ≡ (inside r x || hidden pic ms x) = ap (λ z. z || hidden pic ms x) (h .0) in
     rw e (elim (inside r x) as (λ b. cond (b || hidden pic ms x) (visible pic (m ∷ ms) l) (x ∷ visible pic (m ∷ ms) l) ≡ visible pic ms (cond b (outside r l) (x ∷ outside r l)))
-        [ true ↦ i | false ↦ ap (λ z. cond (hidden pic ms x) z (x ∷ z)) i ])
+    [ true ↦ i | false ↦ ap (λ z. cond (hidden pic ms x) z (x ∷ z)) i ])
 
 hides-past : (pic m : List ℕ) (a : ℕ) → (control (type-of pic m) ≡ true → getD m 4 0 < a) → hides pic m a ≡ (control (type-of pic m) && inside (area-of pic m) a)
 unfolding hides
 hides-past pic m a h =
     ⊎-elim (λ t. rw t (let k = lt-ltb _ _ (h t) in rw k (tail (inside (area-of pic m) a)))) (λ f. rw f) (cases-bool (control (type-of pic m)))
   where
-  tail : (b : Bool) → (b && true) ≡ b
-  tail true = refl
-  tail false = refl
+    tail : (b : Bool) → (b && true) ≡ b
+    tail true = refl
+    tail false = refl
 
 hides-all-past : (pic m l : List ℕ) → (control (type-of pic m) ≡ true → Above (getD m 4 0) l) → All (λ a. hides pic m a ≡ (control (type-of pic m) && inside (area-of pic m) a)) l
 hides-all-past pic m [] h = tt
@@ -186,8 +186,8 @@ unfolding hidden
 unhidden pic [] a p l = refl
 unhidden pic (m ∷ ms) a p l =
     or-from _ _
-        (up-to-last pic m a (λ c. let f = five pic m (p .0) c in let k = all-getD (λ x. a < x) m 4 0 (omega arith) (l .0) in omega arith))
-        (unhidden pic ms a (p .1) (l .1))
+    (up-to-last pic m a (λ c. let f = five pic m (p .0) c in let k = all-getD (λ x. a < x) m 4 0 (omega arith) (l .0) in omega arith))
+    (unhidden pic ms a (p .1) (l .1))
 
 unhidden-all : (pic m : List ℕ) (ms : List (List ℕ)) (more xs : List ℕ) → ((a : ℕ) → Above a more → Later a ms) → All (Passed pic) ms → All (λ a. Above a more) xs → (control (type-of pic m) ≡ true → All (λ a. a ≤ getD m 4 0) xs) → All (λ a. hidden pic (m ∷ ms) a ≡ false) xs
 unfolding hidden
@@ -213,12 +213,12 @@ unfolding hidden
 hidden-past pic [] y a p u h = absurd (false≢true h)
 hidden-past pic (m ∷ ms) y a p u h =
     ⊎-elim
-        (λ k. let q = hides-control pic m a k in
-            let f = five pic m (p .0) (q .0) in
-            let g = all-getD (λ x. y < x) m 4 0 (omega arith) (above-left y m (joined (λ x. x) ms) u) in
-            let e = q .1 in omega arith)
-        (λ k. hidden-past pic ms y a (p .1) (above-right y m (joined (λ x. x) ms) u) k)
-        (or-cases _ _ h)
+    (λ k. let q = hides-control pic m a k in
+    let f = five pic m (p .0) (q .0) in
+    let g = all-getD (λ x. y < x) m 4 0 (omega arith) (above-left y m (joined (λ x. x) ms) u) in
+    let e = q .1 in omega arith)
+    (λ k. hidden-past pic ms y a (p .1) (above-right y m (joined (λ x. x) ms) u) k)
+    (or-cases _ _ h)
 
 pub hidden-all-past : (pic : List ℕ) (ms : List (List ℕ)) (a : ℕ) (xs rest : List ℕ) → All (Passed pic) ms → All (λ y. Above y (joined (λ m. m) ms ++ rest)) xs → hidden pic ms a ≡ true → All (λ y. y < a) xs
 hidden-all-past pic ms a [] rest p u h = tt

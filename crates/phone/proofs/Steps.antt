@@ -15,6 +15,7 @@ use Rattle.std.specs.declared.result.Result.{Result}
 use Rattle.std.specs.declared.result.Result.the-variants.{Ok, Err}
 use Rattle.air.specs.declared.fault.Fault.{Fault}
 use Rattle.air.specs.declared.fault.Fault.the-variants.{Call, Layout}
+use Rattle.air.specs.Faults.{address-of}
 use Rattle.phone.specs.declared.area.Area.{Area}
 use Rattle.phone.specs.declared.cursor.Cursor.{Cursor}
 use Rattle.phone.specs.declared.layout.Tlv.{Tlv}
@@ -63,16 +64,19 @@ sized-fits pic x (q ∷ vs) t z h =
     let lv = ap length v in
     let u : Tlv = record { at = x; kind = k; length = n; place = q + 1 } in
     let r : Fits pic (x ∷ q ∷ vs) u = record {
-        three = λ y. eqb-true n 3 (then-three (control k) (eqb n 3) (b .0) y); enough = omega arith; kind-is = refl;
-        then = cond-false _ _ _ z ∙ sym (ap (cleared pic k n) v) } in
+      three = λ y. eqb-true n 3 (then-three (control k) (eqb n 3) (b .0) y);
+      enough = omega arith;
+      kind-is = refl;
+      then = cond-false _ _ _ z ∙ sym (ap (cleared pic k n) v);
+    } in
     subst (Fits pic (x ∷ q ∷ vs)) (c .1) r
 
 pub fits : (pic : List ℕ) (e : ℕ) (l : List ℕ) (t : Tlv) → Ok t ≡ tlv pic e l → Fits pic l t
 fits pic e [] t h = let y : _≡_ {A = ℕ} 0 1 = cc in let b : ⊥ = omega arith in absurd b
 fits pic e (x ∷ l) t h =
     ⊎-elim (λ p. subst (Fits pic (x ∷ l)) (p .1) (null-fits pic x l (p .0)))
-        (λ p. sized-fits pic x l t (p .0) (ok-right (eqb (getD pic x 0) 0xfe) (Layout 13 x) _ t (p .1) .1))
-        (ok-either (eqb (getD pic x 0) 0) _ _ t (sym h))
+    (λ p. sized-fits pic x l t (p .0) (ok-right (eqb (getD pic x 0) 0xfe) (Layout 13 x) _ t (p .1) .1))
+    (ok-either (eqb (getD pic x 0) 0) _ _ t (sym h))
 
 pub onward-message : (pic l : List ℕ) (t : Tlv) → Fits pic l t → t .kind ≡ 3 → onward pic l ≡ valued pic l
 onward-message pic l t f k = cond-true _ _ _ (eq-eqb _ _ (sym (f .kind-is) ∙ k))
@@ -116,7 +120,7 @@ turns-enough pic e zero m l h k = let b : ⊥ = omega arith in absurd b
 turns-enough pic e (suc n) zero l h k = let b : ⊥ = omega arith in absurd b
 turns-enough pic e (suc n) (suc m) l h k =
     going-same (valued pic l) (tlv pic e l) (walks pic e n (beyond pic l)) (walks pic e m (beyond pic l))
-        (λ o. let s = shorter pic e l o in turns-enough pic e n m (beyond pic l) (omega arith) (omega arith))
+    (λ o. let s = shorter pic e l o in turns-enough pic e n m (beyond pic l) (omega arith) (omega arith))
 
 -- the three laws of a walk: a fault ends it, a message ends it, any other TLV is passed
 
@@ -203,6 +207,14 @@ refused pic f w false a k = let e : f ≡ Call 6 0 = cc in ap failed (sym e)
 
 pub not-opening : (pic : List ℕ) (f : Fault) → Err f ≡ opened pic → walked pic ≡ failed f
 not-opening pic f h = refused pic f _ (eqb (length pic) 256) (accepted pic) h
+
+near : (pic : List ℕ) (f : Fault) (b a : Bool) → Err f ≡ cond b (cond a (Ok (fresh (area-end pic))) (Err (Layout 9 12))) (Err (Call 6 0)) → address-of f ≤ 256
+near pic f true true k = let z : _≡_ {A = ℕ} 0 1 = cc in let b : ⊥ = omega arith in absurd b
+near pic f true false k = let e : f ≡ Layout 9 12 = cc in omega (arith, ap address-of e)
+near pic f false a k = let e : f ≡ Call 6 0 = cc in omega (arith, ap address-of e)
+
+pub refused-near : (pic : List ℕ) (f : Fault) → Err f ≡ opened pic → address-of f ≤ 256
+refused-near pic f h = near pic f (eqb (length pic) 256) (accepted pic) h
 
 -- a cursor that was moved past a TLV: less is left, and the walk from there on is the rest of the walk
 pub record Moved (pic : List ℕ) (s t : Cursor) (v : Tlv) : Type 0 where

@@ -2,7 +2,7 @@
 use mathlib.Core.Path.{_≡_}
 use mathlib.Core.Bool.{Bool, true, false, cond, not, _&&_, _||_}
 use mathlib.Core.List.{List, [], _∷_}
-use Prim.Native.Nat.{ℕ, zero, suc, _+_, _*_, _/_}
+use Prim.Native.Nat.{ℕ, zero, suc, _+_, _*_, _/_, _≤_}
 use lib.Dec.{eqb, leb}
 use lib.ListN.{getD, length, take, drop}
 use Rattle.std.specs.Iters.{counting}
@@ -12,6 +12,7 @@ use Rattle.std.specs.declared.result.Result.{Result}
 use Rattle.std.specs.declared.result.Result.the-variants.{Ok, Err}
 use Rattle.air.specs.declared.fault.Fault.{Fault}
 use Rattle.air.specs.declared.fault.Fault.the-variants.{Call, Layout}
+use Rattle.air.specs.Faults.{address-of}
 use Rattle.phone.specs.declared.area.Area.{Area}
 use Rattle.phone.specs.declared.cursor.Cursor.{Cursor}
 use Rattle.phone.specs.declared.layout.Tlv.{Tlv}
@@ -70,6 +71,11 @@ tlv pic e [] = Err (Layout 13 e)
 tlv pic e (t ∷ l) =
     let k = getD pic t 0 in
     cond (eqb k 0) (Ok (record { at = t; kind = 0; length = 0; place = t + 1 })) (cond (eqb k 0xfe) (Err (Layout 13 t)) (sized pic t k l))
+
+-- no address is past 256, the end of the largest area
+abbrev pub Bounded : Result Tlv Fault → Type 0
+Bounded (Ok t) = (t .at ≤ 256) × (t .place ≤ 256)
+Bounded (Err f) = address-of f ≤ 256
 
 -- the addresses from its value on
 abbrev pub valued : List ℕ → List ℕ → List ℕ

@@ -6,3 +6,9 @@ pub mod Cursors
 pub mod Layout
 -- how TLVs lie in a picture, said without a walk
 pub mod Tiling
+-- bytes put into a buffer
+pub mod Buffers
+-- the text of a listing
+pub mod Listing
+-- what the phone app in C is told
+pub mod App

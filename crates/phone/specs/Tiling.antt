@@ -45,7 +45,7 @@ pub record Passed (pic m : List ℕ) : Type 0 where
 abbrev pub entry : List ℕ → List ℕ → Tlv
 entry pic m =
     cond (eqb (type-of pic m) 0) (record { at = getD m 0 0; kind = 0; length = 0; place = getD m 0 0 + 1 })
-        (record { at = getD m 0 0; kind = type-of pic m; length = length-of pic m; place = getD m 1 0 + 1 })
+    (record { at = getD m 0 0; kind = type-of pic m; length = length-of pic m; place = getD m 1 0 + 1 })
 
 -- a control TLV hides the area that it names, as far as that lies after its last byte
 unfoldable pub hides : List ℕ → List ℕ → ℕ → Bool
@@ -105,9 +105,15 @@ pub record Lies (pic : List ℕ) (w : Findings) : Type 0 where
   pub ends : Ends pic (area-end pic) rest last
   pub finds : w ≡ found pic before last
 
--- The answer r of a walk is read off its picture: refused without a walk, or else as things lie, and in no other way.
+-- What is found in a picture: it is refused without a walk, or things are found as they lie, and in no other way.
+pub record Laid-out (pic : List ℕ) (w : Findings) : Type 0 where
+  pub no-picture : (length pic ≡ 256 → ⊥) → w ≡ failed (Call 6 0)
+  pub no-container : length pic ≡ 256 → accepted pic ≡ false → w ≡ failed (Layout 9 12)
+  pub lies : length pic ≡ 256 → accepted pic ≡ true → Lies pic w
+  pub only : length pic ≡ 256 → accepted pic ≡ true → (v : Findings) → Lies pic v → v ≡ w
+
+-- the answer of a walk is the one that is laid out in its picture
 pub record Read-off (pic : List ℕ) (r : Result Message Fault) : Type 0 where
-  pub no-picture : (length pic ≡ 256 → ⊥) → r ≡ Err (Call 6 0)
-  pub no-container : length pic ≡ 256 → accepted pic ≡ false → r ≡ Err (Layout 9 12)
-  pub lies : length pic ≡ 256 → accepted pic ≡ true → (w : Findings) × Lies pic w × (w .answer ≡ r)
-  pub only : length pic ≡ 256 → accepted pic ≡ true → (w : Findings) → Lies pic w → w .answer ≡ r
+  pub found-there : Findings
+  pub laid-out : Laid-out pic found-there
+  pub answer-is : r ≡ found-there .answer

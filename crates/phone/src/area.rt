@@ -4,6 +4,7 @@ ghost use Prim.Native.Nat.{_<_, _≤_};
 ghost use Rattle.phone.specs.Areas.{inside, starts, full, named};
 
 pub(crate) const LOCK_CONTROL: u8 = 0x01;
+
 pub(crate) const MEMORY_CONTROL: u8 = 0x02;
 
 // Addresses from `start` up to `stop`, without `stop`.
@@ -36,9 +37,15 @@ pub(crate) fn named_area(kind: u8, position: u8, size: u8, control: u8) -> Area
     let start = start_of(position, control);
     let size = full_size(size);
     if kind == LOCK_CONTROL {
-        Area { start: start / 4 * 4, stop: (start + (size + 7) / 8 + 3) / 4 * 4 }
+        Area {
+            start: start / 4 * 4,
+            stop: (start + (size + 7) / 8 + 3) / 4 * 4,
+        }
     } else {
-        Area { start, stop: start + size }
+        Area {
+            start,
+            stop: start + size,
+        }
     }
 }
 

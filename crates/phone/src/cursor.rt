@@ -19,7 +19,11 @@ impl Cursor {
     pub(crate) fn new(end: u16) -> Cursor
         ensures value { λ r. ⌜ r ≡ fresh end ⌝ }
     {
-        Cursor { next: 16, end, skipped: [false; 256] }
+        Cursor {
+            next: 16,
+            end,
+            skipped: [false; 256],
+        }
     }
 
     // The first address past the area.

@@ -6,17 +6,19 @@ ghost use lib.ListN.{length, drop};
 ghost use Rattle.std.specs.Options.{isSome};
 ghost use Rattle.std.specs.Results.{isOk};
 ghost use Rattle.phone.specs.Cursors.{Whole, Kept, left, rest};
-ghost use Rattle.phone.specs.Layout.{control, opened, three, cleared, sized, tlv, valued, onward, walked};
+ghost use Rattle.phone.specs.Layout.{Bounded, control, opened, three, cleared, sized, tlv, valued, onward, walked};
 ghost use Rattle.phone.specs.Tiling.{Read-off};
-use air::fault::Fault;
 use crate::area::Area;
 use crate::area::LOCK_CONTROL;
 use crate::area::MEMORY_CONTROL;
 use crate::area::named_area;
 use crate::cursor::Cursor;
+use air::fault::Fault;
 
 const NULL: u8 = 0x00;
+
 pub(crate) const NDEF_MESSAGE: u8 = 0x03;
+
 const TERMINATOR: u8 = 0xfe;
 
 // Where the message's value begins, and how many bytes it has.
@@ -40,11 +42,17 @@ pub(crate) fn open(picture: &[u8]) -> Result<Cursor, Fault>
     ensures value { λ r. ⌜ r ≡ opened (now (picture .entry)) ⌝ }
 {
     if picture.len() != 256 {
-        return Err(Fault::Call { number: 6, address: 0 });
+        return Err(Fault::Call {
+            number: 6,
+            address: 0,
+        });
     }
     let end = 16 + 8 * u16::from(picture[14]);
     if picture[12] != 0xe1 || picture[13] >> 4 != 1 || end > 256 {
-        return Err(Fault::Layout { number: 9, address: 12 });
+        return Err(Fault::Layout {
+            number: 9,
+            address: 12,
+        });
     }
     Ok(Cursor::new(end))
 }
@@ -59,7 +67,12 @@ fn control_area(cursor: &mut Cursor, picture: &[u8], kind: u8) -> Option<Area>
     let position = cursor.take()?;
     let size = cursor.take()?;
     let control = cursor.take()?;
-    Some(named_area(kind, picture[position as usize], picture[size as usize], picture[control as usize]))
+    Some(named_area(
+        kind,
+        picture[position as usize],
+        picture[size as usize],
+        picture[control as usize],
+    ))
 }
 
 // Takes the value of a TLV, and skips the area that a control TLV names.
@@ -77,43 +90,73 @@ fn pass_value(cursor: &mut Cursor, picture: &[u8], tlv: Tlv)
 
 // The rest of a TLV's head, from its length byte on.
 fn sized_head(cursor: &mut Cursor, picture: &[u8], at: u16, kind: u8) -> Result<Tlv, Fault>
-    requires { ⌜ Whole (now cursor) ⌝ ∗ ⌜ length (now picture) ≡ 256 ⌝ }
+    requires { ⌜ Whole (now cursor) ⌝ ∗ ⌜ length (now picture) ≡ 256 ⌝ ∗ ⌜ at ≤ 256 ⌝ }
     ensures value { λ r. ⌜ r ≡ sized (now (picture .entry)) at kind (left (now (cursor .entry))) ⌝ }
+    ensures bound { λ r. ⌜ Bounded r ⌝ }
     ensures after { λ r. ⌜ (isOk r ≡ true → left (now (cursor .exit)) ≡ rest (left (now (cursor .entry)))) ⌝ }
     ensures kept { λ _. ⌜ Kept (now (cursor .entry)) (now (cursor .exit)) ⌝ }
 {
     let Some(length_at) = cursor.take() else {
-        return Err(Fault::Layout { number: 11, address: at });
+        return Err(Fault::Layout {
+            number: 11,
+            address: at,
+        });
     };
     let length = picture[length_at as usize];
     if length == 0xff {
-        return Err(Fault::Layout { number: 12, address: at });
+        return Err(Fault::Layout {
+            number: 12,
+            address: at,
+        });
     }
     if (kind == LOCK_CONTROL || kind == MEMORY_CONTROL) && length != 3 {
-        return Err(Fault::Layout { number: 10, address: at });
+        return Err(Fault::Layout {
+            number: 10,
+            address: at,
+        });
     }
     if cursor.count() < u16::from(length) {
-        return Err(Fault::Layout { number: 11, address: at });
+        return Err(Fault::Layout {
+            number: 11,
+            address: at,
+        });
     }
-    Ok(Tlv { at, kind, length, place: length_at + 1 })
+    Ok(Tlv {
+        at,
+        kind,
+        length,
+        place: length_at + 1,
+    })
 }
 
 // The type and length of the next TLV, whose value is then the next to be taken.
 fn head(cursor: &mut Cursor, picture: &[u8]) -> Result<Tlv, Fault>
     requires { ⌜ Whole (now cursor) ⌝ ∗ ⌜ length (now picture) ≡ 256 ⌝ }
     ensures value { λ r. ⌜ r ≡ tlv (now (picture .entry)) (now (cursor .entry) .end) (left (now (cursor .entry))) ⌝ }
+    ensures bound { λ r. ⌜ Bounded r ⌝ }
     ensures after { λ r. ⌜ (isOk r ≡ true → left (now (cursor .exit)) ≡ valued (now (picture .entry)) (left (now (cursor .entry)))) ⌝ }
     ensures kept { λ _. ⌜ Kept (now (cursor .entry)) (now (cursor .exit)) ⌝ }
 {
     let Some(at) = cursor.take() else {
-        return Err(Fault::Layout { number: 13, address: cursor.area_end() });
+        return Err(Fault::Layout {
+            number: 13,
+            address: cursor.area_end(),
+        });
     };
     let kind = picture[at as usize];
     if kind == NULL {
-        return Ok(Tlv { at, kind, length: 0, place: at + 1 });
+        return Ok(Tlv {
+            at,
+            kind,
+            length: 0,
+            place: at + 1,
+        });
     }
     if kind == TERMINATOR {
-        return Err(Fault::Layout { number: 13, address: at });
+        return Err(Fault::Layout {
+            number: 13,
+            address: at,
+        });
     }
     sized_head(cursor, picture, at, kind)
 }
@@ -122,6 +165,7 @@ fn head(cursor: &mut Cursor, picture: &[u8]) -> Result<Tlv, Fault>
 pub(crate) fn next_tlv(cursor: &mut Cursor, picture: &[u8]) -> Result<Tlv, Fault>
     requires { ⌜ Whole (now cursor) ⌝ ∗ ⌜ length (now picture) ≡ 256 ⌝ }
     ensures value { λ r. ⌜ r ≡ tlv (now (picture .entry)) (now (cursor .entry) .end) (left (now (cursor .entry))) ⌝ }
+    ensures bound { λ r. ⌜ Bounded r ⌝ }
     ensures after { λ r. ⌜ (isOk r ≡ true → left (now (cursor .exit)) ≡ onward (now (picture .entry)) (left (now (cursor .entry)))) ⌝ }
     ensures kept { λ _. ⌜ Kept (now (cursor .entry)) (now (cursor .exit)) ⌝ }
 {
@@ -141,7 +185,10 @@ pub fn walk(picture: &[u8]) -> Result<Message, Fault>
     loop {
         let tlv = next_tlv(&mut cursor, picture)?;
         if tlv.kind == NDEF_MESSAGE {
-            return Ok(Message { place: tlv.place, length: tlv.length });
+            return Ok(Message {
+                place: tlv.place,
+                length: tlv.length,
+            });
         }
     }
 }

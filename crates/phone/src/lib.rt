@@ -1,4 +1,6 @@
 // The phone end: what lies in a tag's memory.
+pub mod app;
 mod area;
 mod cursor;
 pub mod layout;
+pub mod listing;

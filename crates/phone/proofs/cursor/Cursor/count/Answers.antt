@@ -12,9 +12,10 @@ loop-at-again c =
     let a = c .loop-at .at in
     let h : a < s .end = omega arith in
     let i = c .loop-at .inv .0 in
-    elim (c .if-not-self-at .came)
-        [ then-not-self-at w ↦ let e = ap length (free-take (s .skipped) a (s .end) h (w .if-not-self-at .taken)) in (omega (arith, w .n-is), omega (arith, w .n-is))
-        | else-not-self-at w ↦ let e = ap length (free-past (s .skipped) a (s .end) h (w .if-not-self-at .left)) in (omega (arith, w .n-is), omega (arith, w .n-is)) ]
+    elim (c .if-not-self-at .came) [
+      | then-not-self-at w ↦ let e = ap length (free-take (s .skipped) a (s .end) h (w .if-not-self-at .taken)) in (omega (arith, w .n-is), omega (arith, w .n-is))
+      | else-not-self-at w ↦ let e = ap length (free-past (s .skipped) a (s .end) h (w .if-not-self-at .left)) in (omega (arith, w .n-is), omega (arith, w .n-is))
+    ]
 
 pub returns : need.returns
 returns c =

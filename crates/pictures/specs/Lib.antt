@@ -1,0 +1,2 @@
+-- the picture that input bytes stand for
+pub mod Padded

@@ -1,0 +1,2 @@
+-- bytes written in digits
+pub mod Digits

@@ -24,3 +24,6 @@ pub fn listing(heap: Global, mut bytes: Vec<u8>) -> Result<Vec<u8>, AllocError>
         Err(_) => unreachable(),
     }
 }
+
+#[cfg(test)]
+mod tests;

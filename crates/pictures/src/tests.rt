@@ -12,26 +12,126 @@ struct Case {
 }
 
 const CASES: [Case; 20] = [
-    Case { name: "default layout, as a box is made", container: [0xe1, 0x10, 0x14, 0], area: &[3, 0, 0xfe], lines: "  16   3   0\n   0  18   0\n" },
-    Case { name: "first extended layout", container: [0xe1, 0x10, 0x1c, 0], area: &[1, 3, 0xb0, 0x16, 0x34, 2, 3, 0xb4, 0x1c, 4, 3, 0], lines: "  16   1   3\n  21   2   3\n  26   3   0\n   0  28   0\n" },
-    Case { name: "second extended layout", container: [0xe1, 0x10, 0x1e, 0], area: &[1, 3, 0xb0, 0x18, 0x34, 2, 3, 0xb4, 0x1c, 4, 3, 0xc4], lines: "  16   1   3\n  21   2   3\n  26   3 196\n   0  28 196\n" },
-    Case { name: "second extended layout, one byte too long", container: [0xe1, 0x10, 0x1e, 0], area: &[1, 3, 0xb0, 0x18, 0x34, 2, 3, 0xb4, 0x1c, 4, 3, 0xc5], lines: "  16   1   3\n  21   2   3\n  11  26   0\n" },
-    Case { name: "message across a skipped area", container: [0xe1, 0x10, 3, 0], area: &[2, 3, 0x20, 4, 4, 3, 13], lines: "  16   2   3\n  21   3  13\n   0  23  13\n" },
-    Case { name: "message cut short by a skipped area", container: [0xe1, 0x10, 3, 0], area: &[2, 3, 0x20, 4, 4, 3, 14], lines: "  16   2   3\n  11  21   0\n" },
-    Case { name: "skipped address right after the control byte", container: [0xe1, 0x10, 3, 0], area: &[2, 3, 0x15, 1, 4, 0xff, 3, 0], lines: "  16   2   3\n  22   3   0\n   0  24   0\n" },
-    Case { name: "types without a meaning are passed", container: [0xe1, 0x10, 3, 0], area: &[0, 0xfd, 2, 3, 3, 0xff, 0, 3, 1], lines: "  16   0   0\n  17 253   2\n  21 255   0\n  23   3   1\n   0  25   1\n" },
-    Case { name: "no magic number", container: [0xe0, 0x10, 0x14, 0], area: &[3, 0], lines: "   9  12   0\n" },
-    Case { name: "another version", container: [0xe1, 0x20, 0x14, 0], area: &[3, 0], lines: "   9  12   0\n" },
-    Case { name: "area past 255", container: [0xe1, 0x10, 0x1f, 0], area: &[3, 0], lines: "   9  12   0\n" },
-    Case { name: "largest area, low digit of the version not looked at", container: [0xe1, 0x1f, 0x1e, 0xff], area: &[3, 0], lines: "  16   3   0\n   0  18   0\n" },
-    Case { name: "lock control of another length", container: [0xe1, 0x10, 0x14, 0], area: &[0, 1, 2, 0xb0, 0x16], lines: "  16   0   0\n  10  17   0\n" },
-    Case { name: "memory control of another length", container: [0xe1, 0x10, 0x14, 0], area: &[2, 4, 0xb4, 0x1c, 4, 0], lines: "  10  16   0\n" },
-    Case { name: "no length byte", container: [0xe1, 0x10, 1, 0], area: &[5, 5, 0, 0, 0, 0, 0, 3], lines: "  16   5   5\n  11  23   0\n" },
-    Case { name: "length FFh", container: [0xe1, 0x10, 0x14, 0], area: &[3, 0xff, 0, 1], lines: "  12  16   0\n" },
-    Case { name: "length FFh of a lock control", container: [0xe1, 0x10, 0x14, 0], area: &[1, 0xff, 0, 3], lines: "  12  16   0\n" },
-    Case { name: "terminator before a message", container: [0xe1, 0x10, 0x14, 0], area: &[0, 0xfe, 3, 0], lines: "  16   0   0\n  13  17   0\n" },
-    Case { name: "area's end before a message", container: [0xe1, 0x10, 1, 0], area: &[4, 6, 0, 0, 0, 0, 0, 0], lines: "  16   4   6\n  13  24   0\n" },
-    Case { name: "area of size 0", container: [0xe1, 0x10, 0, 0], area: &[3, 0], lines: "  13  16   0\n" },
+    Case {
+        name: "default layout, as a box is made",
+        container: [0xe1, 0x10, 0x14, 0],
+        area: &[3, 0, 0xfe],
+        lines: "  16   3   0\n   0  18   0\n",
+    },
+    Case {
+        name: "first extended layout",
+        container: [0xe1, 0x10, 0x1c, 0],
+        area: &[1, 3, 0xb0, 0x16, 0x34, 2, 3, 0xb4, 0x1c, 4, 3, 0],
+        lines: "  16   1   3\n  21   2   3\n  26   3   0\n   0  28   0\n",
+    },
+    Case {
+        name: "second extended layout",
+        container: [0xe1, 0x10, 0x1e, 0],
+        area: &[1, 3, 0xb0, 0x18, 0x34, 2, 3, 0xb4, 0x1c, 4, 3, 0xc4],
+        lines: "  16   1   3\n  21   2   3\n  26   3 196\n   0  28 196\n",
+    },
+    Case {
+        name: "second extended layout, one byte too long",
+        container: [0xe1, 0x10, 0x1e, 0],
+        area: &[1, 3, 0xb0, 0x18, 0x34, 2, 3, 0xb4, 0x1c, 4, 3, 0xc5],
+        lines: "  16   1   3\n  21   2   3\n  11  26   0\n",
+    },
+    Case {
+        name: "message across a skipped area",
+        container: [0xe1, 0x10, 3, 0],
+        area: &[2, 3, 0x20, 4, 4, 3, 13],
+        lines: "  16   2   3\n  21   3  13\n   0  23  13\n",
+    },
+    Case {
+        name: "message cut short by a skipped area",
+        container: [0xe1, 0x10, 3, 0],
+        area: &[2, 3, 0x20, 4, 4, 3, 14],
+        lines: "  16   2   3\n  11  21   0\n",
+    },
+    Case {
+        name: "skipped address right after the control byte",
+        container: [0xe1, 0x10, 3, 0],
+        area: &[2, 3, 0x15, 1, 4, 0xff, 3, 0],
+        lines: "  16   2   3\n  22   3   0\n   0  24   0\n",
+    },
+    Case {
+        name: "types without a meaning are passed",
+        container: [0xe1, 0x10, 3, 0],
+        area: &[0, 0xfd, 2, 3, 3, 0xff, 0, 3, 1],
+        lines: "  16   0   0\n  17 253   2\n  21 255   0\n  23   3   1\n   0  25   1\n",
+    },
+    Case {
+        name: "no magic number",
+        container: [0xe0, 0x10, 0x14, 0],
+        area: &[3, 0],
+        lines: "   9  12   0\n",
+    },
+    Case {
+        name: "another version",
+        container: [0xe1, 0x20, 0x14, 0],
+        area: &[3, 0],
+        lines: "   9  12   0\n",
+    },
+    Case {
+        name: "area past 255",
+        container: [0xe1, 0x10, 0x1f, 0],
+        area: &[3, 0],
+        lines: "   9  12   0\n",
+    },
+    Case {
+        name: "largest area, low digit of the version not looked at",
+        container: [0xe1, 0x1f, 0x1e, 0xff],
+        area: &[3, 0],
+        lines: "  16   3   0\n   0  18   0\n",
+    },
+    Case {
+        name: "lock control of another length",
+        container: [0xe1, 0x10, 0x14, 0],
+        area: &[0, 1, 2, 0xb0, 0x16],
+        lines: "  16   0   0\n  10  17   0\n",
+    },
+    Case {
+        name: "memory control of another length",
+        container: [0xe1, 0x10, 0x14, 0],
+        area: &[2, 4, 0xb4, 0x1c, 4, 0],
+        lines: "  10  16   0\n",
+    },
+    Case {
+        name: "no length byte",
+        container: [0xe1, 0x10, 1, 0],
+        area: &[5, 5, 0, 0, 0, 0, 0, 3],
+        lines: "  16   5   5\n  11  23   0\n",
+    },
+    Case {
+        name: "length FFh",
+        container: [0xe1, 0x10, 0x14, 0],
+        area: &[3, 0xff, 0, 1],
+        lines: "  12  16   0\n",
+    },
+    Case {
+        name: "length FFh of a lock control",
+        container: [0xe1, 0x10, 0x14, 0],
+        area: &[1, 0xff, 0, 3],
+        lines: "  12  16   0\n",
+    },
+    Case {
+        name: "terminator before a message",
+        container: [0xe1, 0x10, 0x14, 0],
+        area: &[0, 0xfe, 3, 0],
+        lines: "  16   0   0\n  13  17   0\n",
+    },
+    Case {
+        name: "area's end before a message",
+        container: [0xe1, 0x10, 1, 0],
+        area: &[4, 6, 0, 0, 0, 0, 0, 0],
+        lines: "  16   4   6\n  13  24   0\n",
+    },
+    Case {
+        name: "area of size 0",
+        container: [0xe1, 0x10, 0, 0],
+        area: &[3, 0],
+        lines: "  13  16   0\n",
+    },
 ];
 
 #[test]
@@ -48,7 +148,10 @@ fn pictures_list(rt: LibcRuntime) -> Result<(), Fail> {
 
 #[test]
 fn nulls_fill_the_longest_listing(rt: LibcRuntime) -> Result<(), Fail> {
-    let bytes = Vec::from_slice(rt.alloc(), &[0, 0, 0, 0, 0, 0, 0, 0, 0, 0, 0, 0, 0xe1, 0x10, 0x1e])?;
+    let bytes = Vec::from_slice(
+        rt.alloc(),
+        &[0, 0, 0, 0, 0, 0, 0, 0, 0, 0, 0, 0, 0xe1, 0x10, 0x1e],
+    )?;
     let lines = listing(rt.alloc(), bytes)?;
     check(lines.len() == 3133)?;
     check(lines.starts_with(b"  16   0   0\n  17   0   0\n"))?;

@@ -1,0 +1,2 @@
+-- the worked examples, by computation
+pub mod Showing

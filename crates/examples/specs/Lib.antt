@@ -1,0 +1,2 @@
+-- the worked examples, as one set
+pub mod Worked

@@ -13,8 +13,7 @@ use Rattle.air.specs.declared.fault.Fault.the-variants.{Layout}
 use Rattle.phone.specs.Areas.{starts, named, outside}
 use Rattle.phone.specs.App.{reported}
 use Rattle.phone.specs.Layout.{accepted, area, area-end, failed, walks, walked}
-use Rattle.phone.specs.declared.app.Report.{Report}
-use Rattle.examples.specs.Worked.{Container, Worked, sized-picture, locked-picture}
+use Rattle.examples.specs.Worked.{Container, Worked, locked-picture}
 
 zeros : sent (crc (0x00 ∷ 0x00 ∷ [])) ≡ 0xa0 ∷ 0x1e ∷ []
 unfolding crc byte-in
@@ -47,26 +46,9 @@ not-accepts pic c =
 refuses : (pic : List ℕ) → Container pic 0x1f → walked pic ≡ failed (Layout 9 12)
 refuses pic c = cond-true _ _ _ (eq-eqb _ _ (c .full)) ∙ cond-false _ _ _ (not-accepts pic c)
 
-pub worked : Worked
-worked = record { crc-of-zeros = zeros; crc-of-12-34 = twelve; lock-area = locks; size-accepted = accepts; size-refused = refuses }
-
--- what the code gives
-
-pub zeros-bytes : crc (0x00 ∷ 0x00 ∷ []) ≡ 0x1ea0
-unfolding crc byte-in
-zeros-bytes = refl
-
-pub twelve-bytes : crc (0x12 ∷ 0x34 ∷ []) ≡ 0xcf26
-unfolding crc byte-in
-twelve-bytes = refl
-
-pub past-locks : reported (walked locked-picture .answer) ≡ record { number = 0; place = 181; length = 0 }
+past-locks : reported (walked locked-picture .answer) ≡ record { number = 0; place = 181; length = 0 }
 unfolding walks area outside named starts
 past-locks = refl
 
-pub at-1e : reported (walked (sized-picture 0x1e) .answer) ≡ record { number = 0; place = 18; length = 0 }
-unfolding walks area
-at-1e = refl
-
-pub at-1f : reported (walked (sized-picture 0x1f) .answer) ≡ record { number = 9; place = 12; length = 0 }
-at-1f = refl
+pub worked : Worked
+worked = record { crc-of-zeros = zeros; crc-of-12-34 = twelve; lock-area = locks; size-accepted = accepts; size-refused = refuses; past-lock-area = past-locks }

@@ -9,7 +9,7 @@ use Rattle.air.specs.Crc.{crc, sent}
 use Rattle.air.specs.declared.fault.Fault.the-variants.{Layout}
 use Rattle.phone.specs.Areas.{named, outside}
 use Rattle.phone.specs.Layout.{accepted, failed, walked}
-use Rattle.phone.specs.declared.app.Report.{Report}
+use Rattle.phone.specs.App.{reported}
 use Rattle.examples.specs.declared.Results.{Results}
 
 -- a picture whose capability container is in order but for the area's size
@@ -18,6 +18,14 @@ pub record Container (pic : List ℕ) (size : ℕ) : Type 0 where
   pub magic : getD pic 12 0 ≡ 0xe1
   pub version : getD pic 13 0 / 16 ≡ 1
   pub eights : getD pic 14 0 ≡ size
+
+-- a picture with an area of so many eights, which begins with an empty message
+abbrev pub sized-picture : ℕ → List ℕ
+sized-picture size = replicate 12 0 ++ (0xe1 ∷ 0x10 ∷ size ∷ 0 ∷ 0x03 ∷ replicate 239 0)
+
+-- a lock control TLV with B0 18 34, a TLV that ends at 174, and a message whose length byte is the next address after 175
+abbrev pub locked-picture : List ℕ
+locked-picture = replicate 12 0 ++ (0xe1 ∷ 0x10 ∷ 0x1e ∷ 0 ∷ 0x01 ∷ 0x03 ∷ 0xb0 ∷ 0x18 ∷ 0x34 ∷ 0x04 ∷ 152 ∷ replicate 152 0 ++ (0x03 ∷ replicate 80 0))
 
 pub record Worked : Type 0 where
   -- CRC_A of 00 00 is sent as A0 1E, of 12 34 as 26 CF
@@ -28,21 +36,15 @@ pub record Worked : Type 0 where
   -- an area of size 1Eh is accepted, one of 1Fh is refused with 9
   pub size-accepted : (pic : List ℕ) → Container pic 0x1e → accepted pic ≡ true
   pub size-refused : (pic : List ℕ) → Container pic 0x1f → walked pic ≡ failed (Layout 9 12)
+  -- so a message whose length byte would lie at 176 has it at 180
+  pub past-lock-area : reported (walked locked-picture .answer) ≡ record { number = 0; place = 181; length = 0 }
 
--- a picture with an area of so many eights, which begins with an empty message
-abbrev pub sized-picture : ℕ → List ℕ
-sized-picture size = replicate 12 0 ++ (0xe1 ∷ 0x10 ∷ size ∷ 0 ∷ 0x03 ∷ replicate 239 0)
-
--- a lock control TLV with B0 18 34, a TLV that ends at 174, and a message whose length byte is the next address after 175
-abbrev pub locked-picture : List ℕ
-locked-picture = replicate 12 0 ++ (0xe1 ∷ 0x10 ∷ 0x1e ∷ 0 ∷ 0x01 ∷ 0x03 ∷ 0xb0 ∷ 0x18 ∷ 0x34 ∷ 0x04 ∷ 152 ∷ replicate 152 0 ++ (0x03 ∷ replicate 80 0))
-
--- what the code gives on them
+-- what the rules give on them, and so the code
 abbrev pub given : Results
 given = record {
-  «crc_of_zeros» = 0xa0 ∷ 0x1e ∷ [];
-  «crc_of_12_34» = 0x26 ∷ 0xcf ∷ [];
-  «past_lock_area» = record { number = 0; place = 181; length = 0 };
-  «size_accepted» = record { number = 0; place = 18; length = 0 };
-  «size_refused» = record { number = 9; place = 12; length = 0 };
+  «crc_of_zeros» = sent (crc (0x00 ∷ 0x00 ∷ []));
+  «crc_of_12_34» = sent (crc (0x12 ∷ 0x34 ∷ []));
+  «past_lock_area» = reported (walked locked-picture .answer);
+  «size_accepted» = reported (walked (sized-picture 0x1e) .answer);
+  «size_refused» = reported (walked (sized-picture 0x1f) .answer);
 }

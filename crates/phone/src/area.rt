@@ -1,7 +1,7 @@
 // Areas that control TLVs name, of lock bits or of reserved bytes: a walk skips them.
 ghost use mathlib.Core.Path.{_≡_};
 ghost use Prim.Native.Nat.{_<_, _≤_};
-ghost use Rattle.phone.specs.Areas.{inside, starts, full, named};
+ghost use Rattle.phone.specs.Areas.{inside, starts, full, lock-area, reserved-area, named};
 
 pub(crate) const LOCK_CONTROL: u8 = 0x01;
 
@@ -30,22 +30,38 @@ fn full_size(size: u8) -> u32
     if size == 0 { 256 } else { u32::from(size) }
 }
 
-// The area that a control TLV names: all blocks that its lock bits touch, or its reserved bytes.
+// The area of some lock bits: all blocks that they touch.
+fn lock_area(start: u32, bits: u32) -> Area
+    requires { ⌜ start < 2000000 ⌝ ∗ ⌜ bits ≤ 256 ⌝ }
+    ensures value { λ r. ⌜ r ≡ lock-area start bits ⌝ }
+{
+    Area {
+        start: start / 4 * 4,
+        stop: (start + (bits + 7) / 8 + 3) / 4 * 4,
+    }
+}
+
+// The area of some reserved bytes.
+fn reserved_area(start: u32, bytes: u32) -> Area
+    requires { ⌜ start < 2000000 ⌝ ∗ ⌜ bytes ≤ 256 ⌝ }
+    ensures value { λ r. ⌜ r ≡ reserved-area start bytes ⌝ }
+{
+    Area {
+        start,
+        stop: start + bytes,
+    }
+}
+
+// The area that a control TLV names by its three bytes.
 pub(crate) fn named_area(kind: u8, position: u8, size: u8, control: u8) -> Area
     ensures value { λ r. ⌜ r ≡ named kind position size control ⌝ }
 {
     let start = start_of(position, control);
     let size = full_size(size);
     if kind == LOCK_CONTROL {
-        Area {
-            start: start / 4 * 4,
-            stop: (start + (size + 7) / 8 + 3) / 4 * 4,
-        }
+        lock_area(start, size)
     } else {
-        Area {
-            start,
-            stop: start + size,
-        }
+        reserved_area(start, size)
     }
 }
 

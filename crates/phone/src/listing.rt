@@ -1,9 +1,10 @@
 // The listing of a picture: a line for each TLV that a walk finishes, and a last line with its answer.
 ghost use mathlib.Core.Path.{_≡_};
-ghost use mathlib.Core.Bool.{cond};
+ghost use mathlib.Core.Bool.{true, cond};
 ghost use Prim.Native.Nat.{_+_, _*_, _/_, _%_, _<_, _≤_};
 ghost use lib.Dec.{ltb};
 ghost use lib.ListN.{length};
+ghost use Rattle.std.specs.Results.{isOk};
 ghost use Rattle.air.specs.Faults.{number-of, address-of};
 ghost use Rattle.phone.specs.Buffers.{over};
 ghost use Rattle.phone.specs.Cursors.{Whole, left};
@@ -78,11 +79,27 @@ fn put_walk(out: &mut [u8], mut cursor: Cursor, picture: &[u8]) -> usize
     }
 }
 
+// Puts the listing of a picture into a buffer that is large enough: the number of bytes put.
+fn put_listing(out: &mut [u8], picture: &[u8]) -> usize
+    requires { ⌜ length (now picture) ≡ 256 ⌝ ∗ ⌜ 3133 ≤ length (now out) ⌝ }
+    ensures value { λ r. ⌜ r ≡ length (text (walked (now (picture .entry)))) ⌝ }
+    ensures after { λ _. ⌜ now (out .exit) ≡ over (now (out .entry)) 0 (text (walked (now (picture .entry)))) ⌝ }
+    ensures laid { λ _. ⌜ Laid-out (now (picture .entry)) (walked (now (picture .entry))) ⌝ }
+{
+    match open(picture) {
+        Ok(cursor) => put_walk(out, cursor, picture),
+        Err(fault) => {
+            put_line(out, 0, u16::from(fault.number()), fault.address(), 0);
+            13
+        }
+    }
+}
+
 // Puts the listing of a picture first into a buffer, whose later bytes are kept: the number of bytes put.
 pub fn list(picture: &[u8], out: &mut [u8]) -> Result<usize, Fault>
     ensures value { λ r. ⌜ r ≡ listed (now (picture .entry)) (now (out .entry)) ⌝ }
     ensures after { λ _. ⌜ now (out .exit) ≡ listed-into (now (picture .entry)) (now (out .entry)) ⌝ }
-    ensures laid { λ _. ⌜ Laid-out (now (picture .entry)) (walked (now (picture .entry))) ⌝ }
+    ensures laid { λ r. ⌜ (isOk r ≡ true → Laid-out (now (picture .entry)) (walked (now (picture .entry)))) ⌝ }
 {
     if picture.len() != 256 {
         return Err(Fault::Call {
@@ -96,11 +113,5 @@ pub fn list(picture: &[u8], out: &mut [u8]) -> Result<usize, Fault>
             address: 0,
         });
     }
-    match open(picture) {
-        Ok(cursor) => Ok(put_walk(out, cursor, picture)),
-        Err(fault) => {
-            put_line(out, 0, u16::from(fault.number()), fault.address(), 0);
-            Ok(13)
-        }
-    }
+    Ok(put_listing(out, picture))
 }

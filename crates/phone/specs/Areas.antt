@@ -5,6 +5,14 @@ use Prim.Native.Nat.{ℕ, _+_, _*_, _/_, _%_, _^_}
 use lib.Dec.{eqb, ltb, leb}
 use Rattle.phone.specs.declared.area.Area.{Area}
 
+-- the types of the control TLVs, which name areas of lock bits and of reserved bytes
+abbrev pub lock-control : ℕ
+lock-control = 0x01
+
+abbrev pub memory-control : ℕ
+memory-control = 0x02
+
+-- an area goes from its start up to its stop, without the stop
 abbrev pub inside : Area → ℕ → Bool
 inside r a = leb (r .start) a && ltb a (r .stop)
 
@@ -29,6 +37,7 @@ lock-area a n = record { start = a / 4 * 4; stop = (a + (n + 7) / 8 + 3) / 4 * 4
 abbrev pub reserved-area : ℕ → ℕ → Area
 reserved-area a n = record { start = a; stop = a + n }
 
--- the area that a control TLV names: of lock bits for type 01h, of reserved bytes for type 02h
+-- the area that a control TLV names by its type and its three bytes
 unfoldable pub named : ℕ → ℕ → ℕ → ℕ → Area
-named kind position size control = cond (eqb kind 1) (lock-area (starts position control) (full size)) (reserved-area (starts position control) (full size))
+named kind position size control =
+    cond (eqb kind lock-control) (lock-area (starts position control) (full size)) (reserved-area (starts position control) (full size))

@@ -15,7 +15,7 @@ use Rattle.air.specs.declared.fault.Fault.the-variants.{Call, Layout}
 use Rattle.phone.specs.declared.layout.Tlv.{Tlv}
 use Rattle.phone.specs.declared.layout.Message.{Message}
 use Rattle.phone.specs.Areas.{named, inside}
-use Rattle.phone.specs.Layout.{accepted, area, area-end, byte, control, Findings, failed}
+use Rattle.phone.specs.Layout.{null, message, terminator, control, accepted, area, area-end, byte, Findings, failed}
 
 abbrev pub type-of : List ℕ → List ℕ → ℕ
 type-of pic m = byte pic m 0
@@ -26,25 +26,25 @@ length-of pic m = byte pic m 1
 -- a TLV with a length byte is whole: its value follows, of so many bytes; a control TLV has three
 pub record Sized (pic m : List ℕ) : Type 0 where
   pub full : length m ≡ 2 + length-of pic m
-  pub not-null : type-of pic m ≡ 0 → ⊥
+  pub not-null : type-of pic m ≡ null → ⊥
   pub not-long : length-of pic m ≡ 255 → ⊥
   pub three : control (type-of pic m) ≡ true → length-of pic m ≡ 3
 
 -- a null TLV is its type byte alone
 pub record Null (pic m : List ℕ) : Type 0 where
-  pub is-null : type-of pic m ≡ 0
+  pub is-null : type-of pic m ≡ null
   pub alone : length m ≡ 1
 
 -- a TLV that is passed over whole: neither a terminator nor a message
 pub record Passed (pic m : List ℕ) : Type 0 where
   pub form : Null pic m ⊎ Sized pic m
-  pub not-end : type-of pic m ≡ 0xfe → ⊥
-  pub not-message : type-of pic m ≡ 3 → ⊥
+  pub not-end : type-of pic m ≡ terminator → ⊥
+  pub not-message : type-of pic m ≡ message → ⊥
 
 -- what is listed of it: address, type and length, and the address after its last byte before the value
 abbrev pub entry : List ℕ → List ℕ → Tlv
 entry pic m =
-    cond (eqb (type-of pic m) 0) (record { at = getD m 0 0; kind = 0; length = 0; place = getD m 0 0 + 1 })
+    cond (eqb (type-of pic m) null) (record { at = getD m 0 0; kind = null; length = 0; place = getD m 0 0 + 1 })
     (record { at = getD m 0 0; kind = type-of pic m; length = length-of pic m; place = getD m 1 0 + 1 })
 
 -- a control TLV hides the area that it names, as far as that lies after its last byte
@@ -66,21 +66,21 @@ pub record Meets (pic l : List ℕ) (w : Findings) : Type 0 where
   pub length-at : ℕ
   pub behind : List ℕ
   pub split : l ≡ type-at ∷ length-at ∷ (w .value ++ behind)
-  pub is-message : getD pic type-at 0 ≡ 3
+  pub is-message : getD pic type-at 0 ≡ message
   pub not-long : getD pic length-at 0 ≡ 255 → ⊥
   pub whole : length (w .value) ≡ getD pic length-at 0
   pub answers : w .answer ≡ Ok (record { place = length-at + 1; length = getD pic length-at 0 })
-  pub lists : w .tlvs ≡ record { at = type-at; kind = 3; length = getD pic length-at 0; place = length-at + 1 } ∷ []
+  pub lists : w .tlvs ≡ record { at = type-at; kind = message; length = getD pic length-at 0; place = length-at + 1 } ∷ []
 
 -- a type that has a length byte
 pub record Lengthy (kind : ℕ) : Type 0 where
-  pub not-null : kind ≡ 0 → ⊥
-  pub not-end : kind ≡ 0xfe → ⊥
+  pub not-null : kind ≡ null → ⊥
+  pub not-end : kind ≡ terminator → ⊥
 
 -- What stands first among the addresses l is no whole TLV: the fault that this is. The area ends before e.
 pub data Fails (pic : List ℕ) (e : ℕ) : List ℕ → Fault → Type 0 where
   nothing-left : Fails pic e [] (Layout 13 e)
-  terminated : (t : ℕ) (l : List ℕ) → getD pic t 0 ≡ 0xfe → Fails pic e (t ∷ l) (Layout 13 t)
+  terminated : (t : ℕ) (l : List ℕ) → getD pic t 0 ≡ terminator → Fails pic e (t ∷ l) (Layout 13 t)
   no-length : (t : ℕ) → Lengthy (getD pic t 0) → Fails pic e (t ∷ []) (Layout 11 t)
   long : (t q : ℕ) (l : List ℕ) → Lengthy (getD pic t 0) → getD pic q 0 ≡ 255 → Fails pic e (t ∷ q ∷ l) (Layout 12 t)
   not-three : (t q : ℕ) (l : List ℕ) → control (getD pic t 0) ≡ true → (getD pic q 0 ≡ 255 → ⊥) → (getD pic q 0 ≡ 3 → ⊥) → Fails pic e (t ∷ q ∷ l) (Layout 10 t)

@@ -77,20 +77,26 @@ pub record Lengthy (kind : ℕ) : Type 0 where
   pub not-null : kind ≡ null → ⊥
   pub not-end : kind ≡ terminator → ⊥
 
--- What stands first among the addresses l is no whole TLV: the fault that this is. The area ends before e.
+-- What stands first among the addresses l is neither a message nor a TLV to pass over: the fault that this is. The area ends before e.
 pub data Fails (pic : List ℕ) (e : ℕ) : List ℕ → Fault → Type 0 where
+  -- 13: the area's end comes before a message
   nothing-left : Fails pic e [] (Layout 13 e)
+  -- 13: a terminator comes before a message
   terminated : (t : ℕ) (l : List ℕ) → getD pic t 0 ≡ terminator → Fails pic e (t ∷ l) (Layout 13 t)
+  -- 11: the area ends before the length byte
   no-length : (t : ℕ) → Lengthy (getD pic t 0) → Fails pic e (t ∷ []) (Layout 11 t)
+  -- 12: the length byte is FFh
   long : (t q : ℕ) (l : List ℕ) → Lengthy (getD pic t 0) → getD pic q 0 ≡ 255 → Fails pic e (t ∷ q ∷ l) (Layout 12 t)
+  -- 10: a control TLV whose length is not 3
   not-three : (t q : ℕ) (l : List ℕ) → control (getD pic t 0) ≡ true → (getD pic q 0 ≡ 255 → ⊥) → (getD pic q 0 ≡ 3 → ⊥) → Fails pic e (t ∷ q ∷ l) (Layout 10 t)
+  -- 11: the area ends inside the value
   cut-short : (t q : ℕ) (l : List ℕ) → Lengthy (getD pic t 0) → (getD pic q 0 ≡ 255 → ⊥) → (control (getD pic t 0) ≡ true → getD pic q 0 ≡ 3) → length l < getD pic q 0 → Fails pic e (t ∷ q ∷ l) (Layout 11 t)
 
--- what stands first among the addresses l ends the walk
+-- what stands first among the addresses l, the message or the first thing that went wrong, and so all that is found there
 abbrev pub Ends : List ℕ → ℕ → List ℕ → Findings → Type 0
 Ends pic e l w = Meets pic l w ⊎ ((f : Fault) × Fails pic e l f × (w ≡ failed f))
 
--- what is found where TLVs are passed first
+-- what is found where the TLVs ms are passed first, and then w is found
 abbrev pub found : List ℕ → List (List ℕ) → Findings → Findings
 found pic ms w = record { tlvs = map (entry pic) ms ++ w .tlvs; value = w .value; answer = w .answer }
 

@@ -1,3 +1,3 @@
-// The air rules: what tag and phone share.
+// The air rules: what a box's tag and a phone share.
 pub mod crc;
 pub mod fault;

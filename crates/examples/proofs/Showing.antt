@@ -1,11 +1,11 @@
 -- The worked examples, by computation.
-use mathlib.Core.Path.{_≡_, refl, ap, sym, _∙_}
-use mathlib.Core.Bool.{true, false, _&&_}
+use mathlib.Core.Path.{_≡_, refl, _∙_}
+use mathlib.Core.Bool.{true, false}
 use mathlib.Core.List.{List, [], _∷_, _++_}
-use Prim.Native.Nat.{ℕ, _/_}
+use Prim.Native.Nat.{ℕ}
 use native.Mathlib.Omega.{arith}
-use lib.Dec.{eqb, leb}
-use lib.ListN.{getD, length}
+use lib.Dec.{leb}
+use lib.ListN.{length}
 use Rattle.std.proofs.shelf.Tests.{eq-eqb, le-leb, lt-leb, cond-true, cond-false}
 use Rattle.std.specs.Iters.{counting}
 use Rattle.air.specs.Crc.{byte-in, crc, sent}

@@ -23,7 +23,7 @@ pub record Container (pic : List ℕ) (size : ℕ) : Type 0 where
 abbrev pub sized-picture : ℕ → List ℕ
 sized-picture size = replicate 12 0 ++ (0xe1 ∷ 0x10 ∷ size ∷ 0 ∷ 0x03 ∷ replicate 239 0)
 
--- a lock control TLV with B0 18 34, a TLV that ends at 174, and a message whose length byte is the next address after 175
+-- a lock control TLV with B0 18 34, a TLV of type 04h that ends at 174, and an empty message at 175
 abbrev pub locked-picture : List ℕ
 locked-picture = replicate 12 0 ++ (0xe1 ∷ 0x10 ∷ 0x1e ∷ 0 ∷ 0x01 ∷ 0x03 ∷ 0xb0 ∷ 0x18 ∷ 0x34 ∷ 0x04 ∷ 152 ∷ replicate 152 0 ++ (0x03 ∷ replicate 80 0))
 
@@ -33,11 +33,11 @@ pub record Worked : Type 0 where
   pub crc-of-12-34 : sent (crc (0x12 ∷ 0x34 ∷ [])) ≡ 0x26 ∷ 0xcf ∷ []
   -- a lock control TLV with B0 18 34 skips 176 to 179, and no other address of a picture
   pub lock-area : outside (named 1 0xb0 0x18 0x34) (counting 0 256) ≡ counting 0 176 ++ counting 180 76
+  -- so a message whose type byte is at 175 has its length byte at 180
+  pub past-lock-area : reported (walked locked-picture .answer) ≡ record { number = 0; place = 181; length = 0 }
   -- an area of size 1Eh is accepted, one of 1Fh is refused with 9
   pub size-accepted : (pic : List ℕ) → Container pic 0x1e → accepted pic ≡ true
   pub size-refused : (pic : List ℕ) → Container pic 0x1f → walked pic ≡ failed (Layout 9 12)
-  -- so a message whose length byte would lie at 176 has it at 180
-  pub past-lock-area : reported (walked locked-picture .answer) ≡ record { number = 0; place = 181; length = 0 }
 
 -- what the rules give on them, and so the code
 abbrev pub given : Results

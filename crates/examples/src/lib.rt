@@ -27,7 +27,7 @@ fn with_size(size: u8) -> [u8; 256]
     picture
 }
 
-// A lock control TLV with B0 18 34, a TLV that ends at 174, and a message whose length byte is the next after 175.
+// A lock control TLV with B0 18 34, a TLV of type 04h that ends at 174, and an empty message at 175.
 fn with_lock_area() -> [u8; 256]
     ensures value { λ r. ⌜ r ≡ locked-picture ⌝ }
 {

@@ -1,16 +1,15 @@
 -- The list of the addresses that are still to be taken.
-use mathlib.Core.Path.{_≡_, refl, sym, ap, _∙_}
+use mathlib.Core.Path.{_≡_, refl, sym, _∙_}
 use mathlib.Core.Bool.{Bool, true, false, cond, _||_}
 use mathlib.Core.List.{List, [], _∷_}
 use Prim.Native.Nat.{ℕ, zero, suc, _+_, _-_, _≤_, _<_}
 use native.Mathlib.Omega.{arith}
 use native.Mathlib.Numerals.{add-one}
-use lib.ListN.{getD, length, drop}
+use lib.ListN.{getD, drop}
 use Rattle.std.proofs.shelf.Tests.{cond-true, cond-false}
-use Rattle.std.specs.declared.option.Option.the-variants.{Some, None}
 use Rattle.phone.specs.declared.area.Area.{Area}
 use Rattle.phone.specs.Areas.{inside, outside}
-use Rattle.phone.specs.Cursors.{free, first, rest}
+use Rattle.phone.specs.Cursors.{free, rest}
 
 pub free-none : (s : List Bool) (a e : ℕ) → e ≤ a → free s a (e - a) ≡ []
 unfolding free
@@ -46,15 +45,3 @@ rest-drop zero [] = refl
 rest-drop zero (x ∷ l) = refl
 rest-drop (suc i) [] = rw add-one
 rest-drop (suc i) (x ∷ l) = rest-drop i l ∙ rw (add-one (suc i), add-one i)
-
-pub first-none : (i : ℕ) (l : List ℕ) → None ≡ first (drop i l) → length l ≤ i
-first-none zero [] e = omega arith
-first-none zero (x ∷ l) e = let z : _≡_ {A = ℕ} 0 1 = cc in let b : ⊥ = omega arith in absurd b
-first-none (suc i) [] e = omega arith
-first-none (suc i) (x ∷ l) e = let k = first-none i l e in omega arith
-
-pub first-some : (i : ℕ) (l : List ℕ) (a : ℕ) → Some a ≡ first (drop i l) → (i < length l) × (a ≡ getD l i 0)
-first-some zero [] a e = let z : _≡_ {A = ℕ} 0 1 = cc in let b : ⊥ = omega arith in absurd b
-first-some zero (x ∷ l) a e = (omega arith, cc)
-first-some (suc i) [] a e = let z : _≡_ {A = ℕ} 0 1 = cc in let b : ⊥ = omega arith in absurd b
-first-some (suc i) (x ∷ l) a e = let k = first-some i l a e in let m = k .0 in (omega arith, k .1)

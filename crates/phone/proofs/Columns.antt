@@ -1,12 +1,11 @@
 -- A column, digit by digit.
-use mathlib.Core.Path.{_≡_, refl, sym, ap, _∙_}
+use mathlib.Core.Path.{_≡_, refl, ap, _∙_}
 use mathlib.Core.Bool.{cond}
-use mathlib.Core.List.{List, [], _∷_, _++_, append-assoc}
-use mathlib.Core.Logic.{_⊎_, inl, inr, ⊎-elim}
-use Prim.Native.Nat.{ℕ, _+_, _-_, _/_, _%_, _^_, _≤_, _<_}
+use mathlib.Core.List.{List, [], _∷_}
+use mathlib.Core.Logic.{_⊎_, ⊎-elim}
+use Prim.Native.Nat.{ℕ, _+_, _-_, _/_, _%_, _≤_, _<_}
 use native.Mathlib.Omega.{arith}
-use lib.Dec.{ltb, lit<}
-use lib.ListN.{length, replicate}
+use lib.Dec.{ltb}
 use Rattle.std.specs.Written.{decimal}
 use Rattle.std.proofs.shelf.Decimals.{decimal-digit, decimal-step}
 use Rattle.std.proofs.shelf.Tests.{cond-true, cond-false, lt-ltb, le-ltb, cases-lt}
@@ -21,9 +20,6 @@ space n u h = cond-true _ _ _ (lt-ltb n u h)
 
 digit : (n u d : ℕ) → u ≤ n → n / u % 10 ≡ d → pad n u ≡ 48 + d
 digit n u d h e = cond-false _ _ _ (le-ltb n u h) ∙ ap (λ z. 48 + z) e
-
-abbrev justified : List ℕ → List ℕ
-justified ds = replicate (4 - length ds) 32 ++ ds
 
 -- what stands in the four columns of a number
 abbrev pub spread : ℕ → List ℕ

@@ -2,6 +2,8 @@
 pub mod Addresses
 -- one TLV, and one after the other
 pub mod Steps
+-- a lock area by blocks
+pub mod Blocks
 -- addresses in rising order, and what of them is visible
 pub mod Rising
 -- what a walk finds lies so

@@ -17,10 +17,10 @@ use Rattle.air.specs.declared.fault.Fault.{Fault}
 use Rattle.air.specs.declared.fault.Fault.the-variants.{Layout}
 use Rattle.phone.specs.declared.layout.Tlv.{Tlv}
 use Rattle.phone.specs.Areas.{named, outside}
-use Rattle.phone.specs.Layout.{area, area-end, byte, control, named-in, cleared, sized, tlv, valued, beyond, Findings, failed, met, onto, going, walks, walk-over}
-use Rattle.phone.specs.Tiling.{type-of, length-of, Null, Sized, Passed, entry, visible, Meets, Lengthy, Fails, nothing-left, terminated, no-length, long, not-three, cut-short, Ends, found, Lies}
+use Rattle.phone.specs.Layout.{area, area-end, control, named-in, cleared, sized, tlv, valued, beyond, Findings, failed, met, onto, going, walks, walk-over}
+use Rattle.phone.specs.Tiling.{type-of, Null, Sized, Passed, entry, visible, Meets, Lengthy, Fails, nothing-left, terminated, no-length, long, not-three, cut-short, Ends, found, Lies}
 use Rattle.phone.proofs.Steps.{ok-right, ok-left, ok-either, then-three, shorter}
-use Rattle.phone.proofs.Rising.{Above, Rising, Later, above-left, above-right, rising-right, rising-area, area-of, pruned, all-pruned, rising-pruned, visible-++, visible-nil, pruning, front-visible}
+use Rattle.phone.proofs.Rising.{Above, Rising, Later, above-left, above-right, rising-right, rising-area, pruned, all-pruned, rising-pruned, visible-++, visible-nil, pruning, front-visible}
 
 -- what is found among the addresses l
 record Rest (pic : List ℕ) (e : ℕ) (l : List ℕ) (w : Findings) : Type 0 where

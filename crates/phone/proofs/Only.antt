@@ -1,26 +1,26 @@
 -- What lies in a picture is what its walk finds.
 use mathlib.Core.Path.{_≡_, refl, sym, ap, _∙_, subst}
-use mathlib.Core.Bool.{Bool, true, false, cond, not, _&&_}
+use mathlib.Core.Bool.{Bool, true, false, not, _&&_}
 use mathlib.Core.List.{List, [], _∷_, _++_, append-assoc}
-use mathlib.Core.Logic.{_⊎_, inl, inr, ⊎-elim}
-use Prim.Native.Nat.{ℕ, zero, suc, _+_, _≤_, _<_}
+use mathlib.Core.Logic.{_⊎_, ⊎-elim}
+use Prim.Native.Nat.{ℕ, _+_, _≤_, _<_}
 use native.Mathlib.Omega.{arith}
-use lib.Dec.{eqb, leb}
-use lib.ListN.{getD, length, drop, take, length-append}
-use Rattle.std.proofs.shelf.Tests.{cases-bool, cond-true, cond-false, le-leb, lt-leb, ne-eqb, eq-eqb, eqb-true, eqb-false, false≢true, or-cases}
+use lib.Dec.{eqb}
+use lib.ListN.{getD, length, drop, length-append}
+use Rattle.std.proofs.shelf.Tests.{cases-bool, cond-true, cond-false, le-leb, lt-leb, ne-eqb, eq-eqb, eqb-true, false≢true, or-cases}
 use Rattle.std.proofs.shelf.Elements.{all-weaker}
 use Rattle.std.proofs.shelf.Lists.{take-at, drop-at}
 use Rattle.std.specs.shelf.Lists.{All, joined}
 use Rattle.std.specs.declared.result.Result.{Result}
 use Rattle.std.specs.declared.result.Result.the-variants.{Ok, Err}
 use Rattle.air.specs.declared.fault.Fault.{Fault}
-use Rattle.air.specs.declared.fault.Fault.the-variants.{Call, Layout}
 use Rattle.phone.specs.declared.layout.Tlv.{Tlv}
 use Rattle.phone.specs.declared.layout.Message.{Message}
-use Rattle.phone.specs.Layout.{accepted, area, area-end, control, cleared, sized, tlv, valued, beyond, Findings, failed, met, onto, walk-over, walked}
-use Rattle.phone.specs.Tiling.{type-of, length-of, Null, Sized, Passed, entry, hidden, visible, Meets, Lengthy, Fails, nothing-left, terminated, no-length, long, not-three, cut-short, Ends, found, Lies, Laid-out, Read-off}
+use Rattle.phone.specs.Layout.{accepted, area, area-end, control, cleared, sized, tlv, valued, beyond, Findings, met, onto, walk-over, walked}
+use Rattle.phone.specs.Tiling.{type-of, Null, Sized, Passed, entry, hidden, visible, Meets, Lengthy, Fails, nothing-left, terminated, no-length, long, not-three, cut-short, Ends, found, Lies, Laid-out, Read-off}
 use Rattle.phone.proofs.Steps.{walk-fails, walk-meets, walk-passes}
-use Rattle.phone.proofs.Rising.{Above, Rising, above-left, rising-left, rising-right, crossing, rising-area, pruned, rising-pruned, visible-nil, all-visible, rising-visible, pruning, five, fifth, hides-control, hidden-all-past}
+use Rattle.phone.proofs.Rising.{Above, Rising, rising-left, rising-right, crossing, rising-area, pruned, rising-pruned, visible-nil, all-visible, rising-visible, pruning, five, fifth, hides-control, hidden-all-past}
+use Rattle.phone.proofs.Blocks.{blockwise}
 use Rattle.phone.proofs.Lying.{pruned-same, lies}
 
 -- what stands first is what the rules of one TLV give
@@ -193,6 +193,7 @@ laid-out pic =
       no-container = λ l a. cond-true _ _ _ (eq-eqb _ _ l) ∙ cond-false _ _ _ a;
       lies = λ l a. subst (Lies pic) (sym (on l a)) (lies pic);
       only = λ l a v d. only pic v d ∙ sym (on l a);
+      lock-areas = blockwise;
     }
 
 pub read-off : (pic : List ℕ) (r : Result Message Fault) → r ≡ walked pic .answer → Read-off pic r

@@ -2,10 +2,9 @@
 use mathlib.Core.Path.{_≡_, refl, sym, ap, _∙_}
 use mathlib.Core.Bool.{Bool, true, false, cond, _&&_, _||_}
 use mathlib.Core.List.{List, [], _∷_, _++_}
-use mathlib.Core.Logic.{_⊎_, inl, inr, ⊎-elim}
+use mathlib.Core.Logic.{_⊎_, ⊎-elim}
 use Prim.Native.Nat.{ℕ, zero, suc, _+_, _*_, _≤_, _<_}
 use native.Mathlib.Omega.{arith}
-use lib.Dec.{ltb}
 use lib.ListN.{getD, length}
 use Rattle.std.proofs.shelf.Tests.{cases-bool, cond-false, lt-ltb, le-ltb, ltb-true, false≢true, and-parts, and-right, or-from, or-cases}
 use Rattle.std.proofs.shelf.Elements.{all-getD}
@@ -14,7 +13,7 @@ use Rattle.std.specs.Iters.{counting}
 use Rattle.phone.specs.declared.area.Area.{Area}
 use Rattle.phone.specs.Areas.{inside, outside, named}
 use Rattle.phone.specs.Layout.{area, byte, control}
-use Rattle.phone.specs.Tiling.{type-of, Null, Sized, Passed, hides, hidden, visible}
+use Rattle.phone.specs.Tiling.{type-of, Passed, hides, hidden, visible}
 
 abbrev pub Above : ℕ → List ℕ → Type 0
 Above b l = All (λ a. b < a) l

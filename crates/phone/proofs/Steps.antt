@@ -20,7 +20,7 @@ use Rattle.phone.specs.declared.area.Area.{Area}
 use Rattle.phone.specs.declared.cursor.Cursor.{Cursor}
 use Rattle.phone.specs.declared.layout.Tlv.{Tlv}
 use Rattle.phone.specs.Areas.{inside, outside}
-use Rattle.phone.specs.Cursors.{Whole, free, left, fresh, rest}
+use Rattle.phone.specs.Cursors.{Whole, free, left, fresh}
 use Rattle.phone.specs.Layout.{area-end, area, accepted, opened, byte, control, named-in, cleared, sized, tlv, valued, past-length, beyond, Findings, failed, met, onto, going, walks, walk-over, walked, onward}
 
 -- what one TLV that is read says of its value
@@ -77,9 +77,6 @@ fits pic e (x ∷ l) t h =
     ⊎-elim (λ p. subst (Fits pic (x ∷ l)) (p .1) (null-fits pic x l (p .0)))
     (λ p. sized-fits pic x l t (p .0) (ok-right (eqb (getD pic x 0) 0xfe) (Layout 13 x) _ t (p .1) .1))
     (ok-either (eqb (getD pic x 0) 0) _ _ t (sym h))
-
-pub onward-message : (pic l : List ℕ) (t : Tlv) → Fits pic l t → t .kind ≡ 3 → onward pic l ≡ valued pic l
-onward-message pic l t f k = cond-true _ _ _ (eq-eqb _ _ (sym (f .kind-is) ∙ k))
 
 pub onward-passed : (pic l : List ℕ) (t : Tlv) → Fits pic l t → (t .kind ≡ 3 → ⊥) → onward pic l ≡ beyond pic l
 onward-passed pic l t f k = cond-false _ _ _ (ne-eqb _ _ (λ e. k (f .kind-is ∙ e)))

@@ -1,7 +1,8 @@
 -- The areas that control TLVs name. A walk skips their addresses.
-use mathlib.Core.Bool.{Bool, cond, _&&_}
+use mathlib.Core.Path.{_≡_}
+use mathlib.Core.Bool.{Bool, true, cond, _&&_}
 use mathlib.Core.List.{List, [], _∷_}
-use Prim.Native.Nat.{ℕ, _+_, _*_, _/_, _%_, _^_}
+use Prim.Native.Nat.{ℕ, _+_, _-_, _*_, _/_, _%_, _^_, _≤_, _<_}
 use lib.Dec.{eqb, ltb, leb}
 use Rattle.phone.specs.declared.area.Area.{Area}
 
@@ -32,6 +33,18 @@ full size = cond (eqb size 0) 256 size
 -- n lock bits from address a on: they round up to bytes, and every block of four addresses that these touch is taken
 abbrev pub lock-area : ℕ → ℕ → Area
 lock-area a n = record { start = a / 4 * 4; stop = (a + (n + 7) / 8 + 3) / 4 * 4 }
+
+-- A lock area, said of its bits: x shares a block with a byte that holds one of the n bits from address a on.
+pub record Touched (a n x : ℕ) : Type 0 where
+  pub byte : ℕ
+  pub from-start : a ≤ byte
+  pub holds-a-bit : 8 * (byte - a) < n
+  pub same-block : byte / 4 ≡ x / 4
+
+-- the lock area has the addresses that are touched, and no others
+pub record Blockwise : Type 0 where
+  pub all-touched : (a n x : ℕ) → 0 < n → inside (lock-area a n) x ≡ true → Touched a n x
+  pub no-others : (a n x : ℕ) → Touched a n x → inside (lock-area a n) x ≡ true
 
 -- n reserved bytes from address a on
 abbrev pub reserved-area : ℕ → ℕ → Area

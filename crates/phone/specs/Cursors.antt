@@ -16,7 +16,7 @@ free s at (suc n) = cond (getD s at false) (free s (suc at) n) (at ∷ free s (s
 abbrev pub left : Cursor → List ℕ
 left c = free (c .skipped) (c .next) (c .end - c .next)
 
--- a cursor stands in its area, and the area in a picture
+-- a cursor stands at or before its area's end, and the area ends in the picture
 pub record Whole (c : Cursor) : Type 0 where
   pub within : c .next ≤ c .end
   pub small : c .end ≤ 256

@@ -1,6 +1,5 @@
--- The layout rules, each over the list of the addresses that a walk has still to take.
-use mathlib.Core.Path.{_≡_}
-use mathlib.Core.Bool.{Bool, true, false, cond, not, _&&_, _||_}
+-- The layout rules: the capability container, and then each rule over the list of the addresses that a walk has still to take.
+use mathlib.Core.Bool.{Bool, cond, not, _&&_, _||_}
 use mathlib.Core.List.{List, [], _∷_}
 use Prim.Native.Nat.{ℕ, zero, suc, _+_, _*_, _/_, _≤_}
 use lib.Dec.{eqb, leb}
@@ -56,7 +55,7 @@ byte pic l i = getD pic (getD l i 0) 0
 -- One TLV, where the addresses l are still to be taken. Its type byte stands at the first of them, and the area ends before e.
 
 -- From the length byte on, of a type `kind` at t. The faults in their order: no length byte (11), length FFh (12), a control TLV's length
--- that is not 3 (10), a value that the area does not hold (11); each at the type byte's address.
+-- that is not 3 (10), fewer addresses left than the length says (11); each at the type byte's address.
 abbrev pub sized : List ℕ → ℕ → ℕ → List ℕ → Result Tlv Fault
 sized pic t kind [] = Err (Layout 11 t)
 sized pic t kind (q ∷ l) =
@@ -65,14 +64,14 @@ sized pic t kind (q ∷ l) =
     (cond (control kind && not (eqb n 3)) (Err (Layout 10 t))
     (cond (leb n (length l)) (Ok (record { at = t; kind = kind; length = n; place = q + 1 })) (Err (Layout 11 t))))
 
--- The TLV, or its fault. A null has no length; a terminator, like the area's end, comes before a message (13).
+-- The TLV, or its fault. A null has no length. A terminator and the area's end end the walk with no message (13).
 abbrev pub tlv : List ℕ → ℕ → List ℕ → Result Tlv Fault
 tlv pic e [] = Err (Layout 13 e)
 tlv pic e (t ∷ l) =
     let k = getD pic t 0 in
     cond (eqb k null) (Ok (record { at = t; kind = null; length = 0; place = t + 1 })) (cond (eqb k terminator) (Err (Layout 13 t)) (sized pic t k l))
 
--- the addresses from its value on
+-- the addresses from the TLV's value on
 abbrev pub valued : List ℕ → List ℕ → List ℕ
 valued pic [] = []
 valued pic (t ∷ l) = cond (eqb (getD pic t 0) null) l (rest l)
@@ -85,11 +84,12 @@ named-in pic kind l = named kind (byte pic l 0) (byte pic l 1) (byte pic l 2)
 abbrev pub cleared : List ℕ → ℕ → ℕ → List ℕ → List ℕ
 cleared pic kind n l = cond (control kind) (outside (named-in pic kind l) (drop n l)) (drop n l)
 
+-- what is left after a TLV, from its length byte on
 abbrev pub past-length : List ℕ → ℕ → List ℕ → List ℕ
 past-length pic kind [] = []
 past-length pic kind (q ∷ l) = cleared pic kind (getD pic q 0) l
 
--- the addresses after it
+-- the addresses after the TLV
 abbrev pub beyond : List ℕ → List ℕ → List ℕ
 beyond pic [] = []
 beyond pic (t ∷ l) = cond (eqb (getD pic t 0) null) l (past-length pic (getD pic t 0) l)
@@ -117,7 +117,7 @@ abbrev pub going : List ℕ → Result Tlv Fault → Findings → Findings
 going v (Err f) w = failed f
 going v (Ok t) w = cond (eqb (t .kind) message) (met t v) (onto t w)
 
--- a walk of at most n TLVs over the addresses l
+-- a walk of at most n TLVs over the addresses l; its end at 0 is never reached where n is more than the addresses
 unfoldable pub walks : List ℕ → ℕ → ℕ → List ℕ → Findings
 walks pic e zero l = failed (Layout 13 e)
 walks pic e (suc n) l = going (valued pic l) (tlv pic e l) (walks pic e n (beyond pic l))
@@ -140,7 +140,7 @@ opened pic = by-container pic Err (Ok (fresh (area-end pic)))
 abbrev pub three : List ℕ → ℕ → List ℕ → Option Area
 three pic kind l = cond (leb 3 (length l)) (Some (named-in pic kind l)) None
 
--- the addresses left after a TLV that is passed, or from the value of a message on
+-- what reading one TLV leaves: the value of a message is still there, any other TLV is passed
 abbrev pub onward : List ℕ → List ℕ → List ℕ
 onward pic l = cond (eqb (byte pic l 0) message) (valued pic l) (beyond pic l)
 

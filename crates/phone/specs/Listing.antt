@@ -1,5 +1,4 @@
 -- The text of a listing.
-use mathlib.Core.Path.{_≡_}
 use mathlib.Core.Bool.{cond}
 use mathlib.Core.List.{List, [], _∷_, _++_}
 use Prim.Native.Nat.{ℕ, _-_}
@@ -41,7 +40,7 @@ text w = joined tlv-line (w .tlvs) ++ last-line (w .answer)
 abbrev pub by-sizes : {X : Type 0} → List ℕ → List ℕ → (Fault → X) → X → X
 by-sizes pic out refused x = cond (eqb (length pic) 256) (cond (ltb (length out) 3133) (refused (Call 7 0)) x) (refused (Call 6 0))
 
--- how many bytes are put
+-- how many bytes are put, or the refusal
 abbrev pub listed : List ℕ → List ℕ → Result ℕ Fault
 listed pic out = by-sizes pic out Err (Ok (length (text (walked pic))))
 

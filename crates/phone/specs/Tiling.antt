@@ -9,12 +9,12 @@ use lib.Dec.{eqb, ltb}
 use lib.ListN.{getD, length}
 use Rattle.std.specs.shelf.Lists.{All, joined}
 use Rattle.std.specs.declared.result.Result.{Result}
-use Rattle.std.specs.declared.result.Result.the-variants.{Ok, Err}
+use Rattle.std.specs.declared.result.Result.the-variants.{Ok}
 use Rattle.air.specs.declared.fault.Fault.{Fault}
 use Rattle.air.specs.declared.fault.Fault.the-variants.{Call, Layout}
 use Rattle.phone.specs.declared.layout.Tlv.{Tlv}
 use Rattle.phone.specs.declared.layout.Message.{Message}
-use Rattle.phone.specs.Areas.{named, inside}
+use Rattle.phone.specs.Areas.{named, inside, Blockwise}
 use Rattle.phone.specs.Layout.{null, message, terminator, control, accepted, area, area-end, byte, Findings, failed}
 
 abbrev pub type-of : List ℕ → List ℕ → ℕ
@@ -23,7 +23,7 @@ type-of pic m = byte pic m 0
 abbrev pub length-of : List ℕ → List ℕ → ℕ
 length-of pic m = byte pic m 1
 
--- a TLV with a length byte is whole: its value follows, of so many bytes; a control TLV has three
+-- a TLV with a length byte is whole: its value follows, of as many bytes as the length byte says; a control TLV has three
 pub record Sized (pic m : List ℕ) : Type 0 where
   pub full : length m ≡ 2 + length-of pic m
   pub not-null : type-of pic m ≡ null → ⊥
@@ -41,7 +41,7 @@ pub record Passed (pic m : List ℕ) : Type 0 where
   pub not-end : type-of pic m ≡ terminator → ⊥
   pub not-message : type-of pic m ≡ message → ⊥
 
--- what is listed of it: address, type and length, and the address after its last byte before the value
+-- what a walk notes of it: address, type and length, and the address after its length byte (of a null, after its type byte)
 abbrev pub entry : List ℕ → List ℕ → Tlv
 entry pic m =
     cond (eqb (type-of pic m) null) (record { at = getD m 0 0; kind = null; length = 0; place = getD m 0 0 + 1 })
@@ -60,7 +60,7 @@ unfoldable pub visible : List ℕ → List (List ℕ) → List ℕ → List ℕ
 visible pic ms [] = []
 visible pic ms (a ∷ l) = cond (hidden pic ms a) (visible pic ms l) (a ∷ visible pic ms l)
 
--- A message stands first among the addresses l: type 03h, a length byte that is not FFh, and as many addresses of its value.
+-- A message stands first among the addresses l: type 03h, a length byte that is not FFh, and as many addresses of its value; and this is all that w has.
 pub record Meets (pic l : List ℕ) (w : Findings) : Type 0 where
   pub type-at : ℕ
   pub length-at : ℕ
@@ -111,12 +111,14 @@ pub record Lies (pic : List ℕ) (w : Findings) : Type 0 where
   pub ends : Ends pic (area-end pic) rest last
   pub finds : w ≡ found pic before last
 
--- What is found in a picture: it is refused without a walk, or things are found as they lie, and in no other way.
+-- What is found in a picture: it is refused without a walk, or things are found as they lie, and in no other way. The lock areas that are hidden
+-- go by whole blocks.
 pub record Laid-out (pic : List ℕ) (w : Findings) : Type 0 where
   pub no-picture : (length pic ≡ 256 → ⊥) → w ≡ failed (Call 6 0)
   pub no-container : length pic ≡ 256 → accepted pic ≡ false → w ≡ failed (Layout 9 12)
   pub lies : length pic ≡ 256 → accepted pic ≡ true → Lies pic w
   pub only : length pic ≡ 256 → accepted pic ≡ true → (v : Findings) → Lies pic v → v ≡ w
+  pub lock-areas : Blockwise
 
 -- the answer of a walk is the one that is laid out in its picture
 pub record Read-off (pic : List ℕ) (r : Result Message Fault) : Type 0 where

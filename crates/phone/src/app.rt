@@ -1,6 +1,6 @@
 // The layout walk for the phone app in C.
 ghost use mathlib.Core.Path.{_≡_};
-ghost use Rattle.phone.specs.App.{reported};
+ghost use Rattle.phone.specs.App.{reported, Reported-off};
 ghost use Rattle.phone.specs.Layout.{walked};
 use crate::layout::walk;
 
@@ -16,6 +16,7 @@ pub struct Report {
 #[unsafe(no_mangle)]
 pub extern "C" fn youthgoat_layout_walk(picture: &[u8]) -> Report
     ensures value { λ r. ⌜ r ≡ reported (walked (now (picture .entry)) .answer) ⌝ }
+    ensures laid { λ r. ⌜ Reported-off (now (picture .entry)) r ⌝ }
 {
     match walk(picture) {
         Ok(message) => Report {

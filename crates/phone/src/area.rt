@@ -1,6 +1,6 @@
 // Areas that control TLVs name, of lock bits or of reserved bytes: a walk skips them.
 ghost use mathlib.Core.Path.{_≡_};
-ghost use Prim.Native.Nat.{_<_, _≤_};
+ghost use Prim.Native.Nat.{_^_, _<_, _≤_};
 ghost use Rattle.phone.specs.Areas.{inside, starts, full, lock-area, reserved-area, named};
 
 pub(crate) const LOCK_CONTROL: u8 = 0x01;
@@ -14,10 +14,10 @@ pub(crate) struct Area {
     stop: u32,
 }
 
-// Where the area of a control TLV starts: the high digit of the position, shifted, and its low digit.
+// Where the area of a control TLV starts: the position's high digit, shifted by the control's low digit, plus its low digit.
 fn start_of(position: u8, control: u8) -> u32
     ensures value { λ r. ⌜ r ≡ starts position control ⌝ }
-    ensures bound { λ r. ⌜ r < 2000000 ⌝ }
+    ensures bound { λ r. ⌜ r < 2 ^ 20 ⌝ }
 {
     (u32::from(position >> 4) << (control & 15)) + u32::from(position & 15)
 }
@@ -32,7 +32,7 @@ fn full_size(size: u8) -> u32
 
 // The area of some lock bits: all blocks that they touch.
 fn lock_area(start: u32, bits: u32) -> Area
-    requires { ⌜ start < 2000000 ⌝ ∗ ⌜ bits ≤ 256 ⌝ }
+    requires { ⌜ start < 2 ^ 20 ⌝ ∗ ⌜ bits ≤ 256 ⌝ }
     ensures value { λ r. ⌜ r ≡ lock-area start bits ⌝ }
 {
     Area {
@@ -43,7 +43,7 @@ fn lock_area(start: u32, bits: u32) -> Area
 
 // The area of some reserved bytes.
 fn reserved_area(start: u32, bytes: u32) -> Area
-    requires { ⌜ start < 2000000 ⌝ ∗ ⌜ bytes ≤ 256 ⌝ }
+    requires { ⌜ start < 2 ^ 20 ⌝ ∗ ⌜ bytes ≤ 256 ⌝ }
     ensures value { λ r. ⌜ r ≡ reserved-area start bytes ⌝ }
 {
     Area {

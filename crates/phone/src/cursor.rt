@@ -7,6 +7,8 @@ ghost use Rattle.phone.specs.Areas.{outside};
 ghost use Rattle.phone.specs.Cursors.{Whole, Kept, left, first, rest, fresh};
 use crate::area::Area;
 
+pub(crate) const AREA_START: u16 = 16;
+
 #[derive(Drop)]
 pub(crate) struct Cursor {
     next: u16,
@@ -20,7 +22,7 @@ impl Cursor {
         ensures value { λ r. ⌜ r ≡ fresh end ⌝ }
     {
         Cursor {
-            next: 16,
+            next: AREA_START,
             end,
             skipped: [false; 256],
         }
@@ -33,7 +35,7 @@ impl Cursor {
         self.end
     }
 
-    // The next address that is not skipped, if the area has one left.
+    // Takes the next address that is not skipped, if the area has one left.
     pub(crate) fn take(&mut self) -> Option<u16>
         requires { ⌜ Whole (now self) ⌝ }
         ensures value { λ r. ⌜ r ≡ first (left (now (self .entry))) ⌝ }

@@ -12,6 +12,7 @@ use crate::area::Area;
 use crate::area::LOCK_CONTROL;
 use crate::area::MEMORY_CONTROL;
 use crate::area::named_area;
+use crate::cursor::AREA_START;
 use crate::cursor::Cursor;
 use air::fault::Fault;
 
@@ -21,14 +22,14 @@ pub(crate) const NDEF_MESSAGE: u8 = 0x03;
 
 const TERMINATOR: u8 = 0xfe;
 
-// Where the message's value begins, and how many bytes it has.
+// The address after the message's length byte, and how many bytes its value has. Where that address is skipped, the value begins behind it.
 #[derive(Clone, Copy)]
 pub struct Message {
     pub place: u16,
     pub length: u8,
 }
 
-// One TLV: the address of its type byte, its type and length, and the address after the last byte before its value.
+// One TLV: the address of its type byte, its type and length, and the address after its length byte (of a null, after its type byte).
 #[derive(Clone, Copy)]
 pub(crate) struct Tlv {
     pub(crate) at: u16,
@@ -47,7 +48,7 @@ pub(crate) fn open(picture: &[u8]) -> Result<Cursor, Fault>
             address: 0,
         });
     }
-    let end = 16 + 8 * u16::from(picture[14]);
+    let end = AREA_START + 8 * u16::from(picture[14]);
     if picture[12] != 0xe1 || picture[13] >> 4 != 1 || end > 256 {
         return Err(Fault::Layout {
             number: 9,

@@ -1,4 +1,4 @@
-// The phone end: what lies in a tag's memory.
+// The phone end: what lies in a picture of a box's memory.
 pub mod app;
 mod area;
 mod cursor;

@@ -5,7 +5,7 @@ ghost use Prim.Native.Nat.{_+_, _*_, _/_, _%_, _<_, _≤_};
 ghost use lib.Dec.{ltb};
 ghost use lib.ListN.{length};
 ghost use Rattle.std.specs.Results.{isOk};
-ghost use Rattle.air.specs.Faults.{number-of, address-of};
+ghost use Rattle.std.specs.Vec.{made};
 ghost use Rattle.phone.specs.Buffers.{over};
 ghost use Rattle.phone.specs.Cursors.{Whole, left};
 ghost use Rattle.phone.specs.Layout.{walk-over, walked};
@@ -17,8 +17,8 @@ use crate::layout::next_tlv;
 use crate::layout::open;
 use air::fault::Fault;
 
-// 240 null TLVs and the last line.
-const LONGEST: usize = 3133;
+// The bytes of the longest listing: 240 null TLVs and the last line.
+pub const LONGEST: usize = 3133;
 
 // The digit of n at a unit, or a space in front of the number.
 fn digit_at(n: u16, unit: u16) -> u8
@@ -58,6 +58,7 @@ fn put_line(out: &mut [u8], at: usize, a: u16, b: u16, c: u16)
 fn put_walk(out: &mut [u8], mut cursor: Cursor, picture: &[u8]) -> usize
     requires { ⌜ Whole cursor ⌝ ∗ ⌜ length (now picture) ≡ 256 ⌝ ∗ ⌜ 13 * (length (left cursor) + 1) ≤ length (now out) ⌝ }
     ensures value { λ r. ⌜ r ≡ length (text (walk-over (now (picture .entry)) (cursor .end) (left cursor))) ⌝ }
+    ensures bound { λ r. ⌜ r ≤ 13 * (length (left cursor) + 1) ⌝ }
     ensures after { λ _. ⌜ now (out .exit) ≡ over (now (out .entry)) 0 (text (walk-over (now (picture .entry)) (cursor .end) (left cursor))) ⌝ }
 {
     let mut at = 0;
@@ -83,6 +84,7 @@ fn put_walk(out: &mut [u8], mut cursor: Cursor, picture: &[u8]) -> usize
 fn put_listing(out: &mut [u8], picture: &[u8]) -> usize
     requires { ⌜ length (now picture) ≡ 256 ⌝ ∗ ⌜ 3133 ≤ length (now out) ⌝ }
     ensures value { λ r. ⌜ r ≡ length (text (walked (now (picture .entry)))) ⌝ }
+    ensures bound { λ r. ⌜ r ≤ 3133 ⌝ }
     ensures after { λ _. ⌜ now (out .exit) ≡ over (now (out .entry)) 0 (text (walked (now (picture .entry)))) ⌝ }
     ensures laid { λ _. ⌜ Laid-out (now (picture .entry)) (walked (now (picture .entry))) ⌝ }
 {
@@ -98,6 +100,7 @@ fn put_listing(out: &mut [u8], picture: &[u8]) -> usize
 // Puts the listing of a picture first into a buffer, whose later bytes are kept: the number of bytes put.
 pub fn list(picture: &[u8], out: &mut [u8]) -> Result<usize, Fault>
     ensures value { λ r. ⌜ r ≡ listed (now (picture .entry)) (now (out .entry)) ⌝ }
+    ensures bound { λ r. ⌜ made r (λ n. n ≤ 3133) ⌝ }
     ensures after { λ _. ⌜ now (out .exit) ≡ listed-into (now (picture .entry)) (now (out .entry)) ⌝ }
     ensures laid { λ r. ⌜ (isOk r ≡ true → Laid-out (now (picture .entry)) (walked (now (picture .entry)))) ⌝ }
 {

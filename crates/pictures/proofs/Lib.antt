@@ -1,0 +1,2 @@
+-- a picture that is filled from its front
+pub mod Padding

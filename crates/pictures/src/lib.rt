@@ -1,37 +1,29 @@
-// The listing of a picture that is given by its first bytes, as a text of its own.
+// The listing of a picture that is given by its first bytes.
 ghost use mathlib.Core.Path.{_≡_};
-ghost use lib.ListN.{length};
-ghost use Rattle.std.specs.Of.Vec.{vec-items};
+ghost use Prim.Native.Nat.{_≤_};
 ghost use Rattle.std.specs.Vec.{made};
-ghost use Rattle.phone.specs.Layout.{walked};
-ghost use Rattle.phone.specs.Listing.{text};
-ghost use Rattle.pictures.specs.Padded.{padded};
+ghost use Rattle.pictures.specs.Padded.{padded, put, put-into};
+use air::fault::Fault;
 use phone::listing::list;
-use std::alloc::AllocError;
-use std::alloc::Global;
 
-// The listing of a whole picture; the only fault is want of memory.
-fn lines_of(heap: Global, picture: &[u8]) -> Result<Vec<u8>, AllocError>
-    requires { ⌜ length (now picture) ≡ 256 ⌝ }
-    ensures made { λ r. ⌜ made r (λ v. vec-items v ≡ text (walked (now (picture .entry)))) ⌝ }
+// The picture that begins with these bytes: missing ones count as 00h, further ones are ignored.
+fn padded_picture(bytes: &[u8]) -> [u8; 256]
+    ensures value { λ r. ⌜ r ≡ padded (now (bytes .entry)) ⌝ }
 {
-    let mut lines = Vec::new(heap);
-    lines.resize(3133, 0)?;
-    match list(picture, &mut lines) {
-        Ok(n) => {
-            lines.truncate(n);
-            Ok(lines)
-        }
-        Err(_) => unreachable(),
+    let mut picture = [0; 256];
+    for i in 0..bytes.len().min(256) {
+        picture[i] = bytes[i];
     }
+    picture
 }
 
-// The listing of the picture that begins with these bytes: missing ones count as 00h, further ones are ignored.
-pub fn listing(heap: Global, mut bytes: Vec<u8>) -> Result<Vec<u8>, AllocError>
-    ensures made { λ r. ⌜ made r (λ v. vec-items v ≡ text (walked (padded (vec-items bytes)))) ⌝ }
+// Puts the listing of that picture first into a buffer, whose later bytes are kept: the number of bytes put.
+pub fn list_padded(bytes: &[u8], out: &mut [u8]) -> Result<usize, Fault>
+    ensures value { λ r. ⌜ r ≡ put (now (bytes .entry)) (now (out .entry)) ⌝ }
+    ensures bound { λ r. ⌜ made r (λ n. n ≤ 3133) ⌝ }
+    ensures after { λ _. ⌜ now (out .exit) ≡ put-into (now (bytes .entry)) (now (out .entry)) ⌝ }
 {
-    bytes.resize(256, 0)?;
-    lines_of(heap, &bytes)
+    list(&padded_picture(bytes), out)
 }
 
 #[cfg(test)]

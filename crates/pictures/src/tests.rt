@@ -1,6 +1,7 @@
 // Pictures of every kind, and their listings.
-use super::listing;
+use super::list_padded;
 use air::fault::Fault;
+use phone::listing::LONGEST;
 use phone::listing::list;
 use std::test::*;
 
@@ -11,7 +12,7 @@ struct Case {
     lines: &'static str,
 }
 
-const CASES: [Case; 20] = [
+const CASES: [Case; 27] = [
     Case {
         name: "default layout, as a box is made",
         container: [0xe1, 0x10, 0x14, 0],
@@ -53,6 +54,48 @@ const CASES: [Case; 20] = [
         container: [0xe1, 0x10, 3, 0],
         area: &[2, 3, 0x15, 1, 4, 0xff, 3, 0],
         lines: "  16   2   3\n  22   3   0\n   0  24   0\n",
+    },
+    Case {
+        name: "eight lock bits from B3h take 176 to 179",
+        container: [0xe1, 0x10, 0x15, 0],
+        area: &[1, 3, 0xb3, 8, 4, 3, 157],
+        lines: "  16   1   3\n  21   3 157\n   0  23 157\n",
+    },
+    Case {
+        name: "and none less",
+        container: [0xe1, 0x10, 0x15, 0],
+        area: &[1, 3, 0xb3, 8, 4, 3, 158],
+        lines: "  16   1   3\n  11  21   0\n",
+    },
+    Case {
+        name: "nine lock bits from B3h take 176 to 183",
+        container: [0xe1, 0x10, 0x15, 0],
+        area: &[1, 3, 0xb3, 9, 4, 3, 154],
+        lines: "  16   1   3\n  11  21   0\n",
+    },
+    Case {
+        name: "a size of 0 reserves 256 bytes",
+        container: [0xe1, 0x10, 3, 0],
+        area: &[2, 3, 0x20, 0, 4, 3, 10],
+        lines: "  16   2   3\n  11  21   0\n",
+    },
+    Case {
+        name: "a size of 0 has 256 lock bits",
+        container: [0xe1, 0x10, 7, 0],
+        area: &[1, 3, 0x20, 0, 4, 3, 17],
+        lines: "  16   1   3\n  21   3  17\n   0  23  17\n",
+    },
+    Case {
+        name: "and no fewer",
+        container: [0xe1, 0x10, 7, 0],
+        area: &[1, 3, 0x20, 0, 4, 3, 18],
+        lines: "  16   1   3\n  11  21   0\n",
+    },
+    Case {
+        name: "areas add up",
+        container: [0xe1, 0x10, 3, 0],
+        area: &[2, 3, 0x1b, 1, 4, 2, 3, 0x1d, 2, 4, 3, 0xff, 9],
+        lines: "  16   2   3\n  21   2   3\n  26   3   9\n   0  29   9\n",
     },
     Case {
         name: "types without a meaning are passed",
@@ -134,28 +177,59 @@ const CASES: [Case; 20] = [
     },
 ];
 
+// Whether these bytes are listed so.
+fn lists(bytes: &[u8], text: &str) -> bool {
+    let mut lines = [0; LONGEST];
+    let Ok(n) = list_padded(bytes, &mut lines) else {
+        return false;
+    };
+    &lines[0..n] == text.as_bytes()
+}
+
 #[test]
-fn pictures_list(rt: LibcRuntime) -> Result<(), Fail> {
+fn pictures_are_listed(rt: LibcRuntime) -> Result<(), Fail> {
     for case in &CASES {
         let mut bytes = Vec::from_slice(rt.alloc(), &[0; 12])?;
         bytes.extend_from_slice(&case.container)?;
         bytes.extend_from_slice(case.area)?;
-        let lines = listing(rt.alloc(), bytes)?;
-        check(lines.as_slice() == case.lines.as_bytes()).note(case.name)?;
+        check(lists(&bytes, case.lines)).note(case.name)?;
     }
     Ok(())
 }
 
 #[test]
-fn nulls_fill_the_longest_listing(rt: LibcRuntime) -> Result<(), Fail> {
-    let bytes = Vec::from_slice(
-        rt.alloc(),
-        &[0, 0, 0, 0, 0, 0, 0, 0, 0, 0, 0, 0, 0xe1, 0x10, 0x1e],
-    )?;
-    let lines = listing(rt.alloc(), bytes)?;
-    check(lines.len() == 3133)?;
+fn the_longest_listing() -> Result<(), Fail> {
+    let mut picture = [0; 256];
+    picture[12] = 0xe1;
+    picture[13] = 0x10;
+    picture[14] = 0x1e;
+    let mut lines = [0xee; LONGEST];
+    let Ok(n) = list(&picture, &mut lines) else {
+        return Err(Fail::new("the sizes are right"));
+    };
+    check_eq(n, LONGEST)?;
     check(lines.starts_with(b"  16   0   0\n  17   0   0\n"))?;
     check(lines.ends_with(b" 255   0   0\n  13 256   0\n"))
+}
+
+#[test]
+fn only_256_bytes_count() -> Result<(), Fail> {
+    let mut bytes = [0xff; 300];
+    bytes[12] = 0xe1;
+    bytes[13] = 0x10;
+    bytes[14] = 0x1e;
+    bytes[16] = 0xfd;
+    bytes[17] = 235;
+    bytes[253] = 0x03;
+    bytes[254] = 0x01;
+    check(lists(&bytes, "  16 253 235\n 253   3   1\n   0 255   1\n")).note("up to the last byte")?;
+    check(lists(&bytes[0..256], "  16 253 235\n 253   3   1\n   0 255   1\n")).note(
+        "and no further",
+    )?;
+    check(lists(&bytes[0..254], "  16 253 235\n 253   3   0\n   0 255   0\n")).note(
+        "missing bytes are 00h",
+    )?;
+    check(lists(&[], "   9  12   0\n")).note("no byte at all")
 }
 
 // The number of a refusal of layer call at address 0 that kept the buffer, which held EEh.

@@ -22,7 +22,7 @@ prepended None bs = None
 prepended (Some b) None = None
 prepended (Some b) (Some bs) = Some (b ∷ bs)
 
--- the bytes that a text writes, if it writes any
+-- the bytes that a text writes; none unless it is pairs of digits
 unfoldable pub written : List ℕ → Option (List ℕ)
 written [] = Some []
 written (d ∷ []) = None

@@ -8,7 +8,8 @@ ghost use Rattle.std.specs.Vec.{made};
 ghost use Rattle.vectors.specs.Hex.{digit-value, with-high, written, digit-of, sent-line};
 ghost use Rattle.vectors.specs.Fronts.{front};
 use air::crc::crc_a;
-use pictures::listing;
+use phone::listing::LONGEST;
+use pictures::list_padded;
 use std::alloc::AllocError;
 use std::alloc::Global;
 use std::error::AnyError;
@@ -97,6 +98,15 @@ fn bytes_of(heap: Global, word: &str) -> Result<Vec<u8>, AnyError> {
     }
 }
 
+// The listing of a picture.
+fn layout_lines(heap: Global, size: u8, area: &[u8]) -> Result<Vec<u8>, AnyError> {
+    let mut lines = [0; LONGEST];
+    let Ok(n) = list_padded(&picture_with(heap, size, area)?, &mut lines) else {
+        unreachable()
+    };
+    Ok(Vec::from_slice(heap, &lines[0..n])?)
+}
+
 // What a line of input is answered.
 fn answer(heap: Global, line: &str) -> Result<Vec<u8>, AnyError> {
     match line.split_once(' ') {
@@ -113,7 +123,7 @@ fn answer(heap: Global, line: &str) -> Result<Vec<u8>, AnyError> {
                 return Err("expected a size of one byte".into());
             };
             let area = bytes_of(heap, area)?;
-            Ok(listing(heap, picture_with(heap, *size, &area)?)?)
+            layout_lines(heap, *size, &area)
         }
         _ => Err("expected `crc HEX` or `layout SIZE HEX`".into()),
     }

@@ -21,6 +21,7 @@ returns-in-Ok c =
     let o = opening (c .args .picture .now) (c .in-Ok .cursor) (c .in-Ok .ensures tt .value) in
     record {
       value = c .put-walk .ensures .value ∙ ap (λ w. length (text w)) (o .finds);
+      bound = let b = c .put-walk .ensures .bound in let f = o .few in omega arith;
       after = c .put-walk .ensures .after ∙ ap (λ w. over (c .args .out .now) 0 (text w)) (o .finds);
       laid = laid-out (c .args .picture .now);
     }
@@ -37,6 +38,7 @@ returns-in-Err c =
     let l = line-length (c .from .result) (c .address .result) 0 (omega arith) (omega arith) (omega arith) in
     record {
       value = sym (ap length t ∙ l);
+      bound = omega arith;
       after = c .put-line .ensures .after ∙ ap (over (c .args .out .now) 0) (sym t);
       laid = laid-out (c .args .picture .now);
     }

@@ -3,13 +3,14 @@ use mathlib.Core.List.{List, _++_}
 use Prim.Native.Nat.{ℕ, _+_, _*_, _≤_}
 use native.Mathlib.Omega.{arith}
 use lib.ListN.{length, length-append}
+use Rattle.std.specs.Results.{isOk}
 use Rattle.phone.specs.Buffers.{over}
 use Rattle.phone.specs.Cursors.{left}
-use Rattle.phone.specs.Layout.{Findings, walk-over, onto}
+use Rattle.phone.specs.Layout.{walk-over}
 use Rattle.phone.specs.Listing.{line, tlv-line, text}
-use Rattle.phone.proofs.Steps.{walk-fails, walk-meets, Moved, moving}
+use Rattle.phone.proofs.Steps.{shorter, walk-fails, walk-meets, Moved, moving}
 use Rattle.phone.proofs.Putting.{over-over, line-length}
-use Rattle.phone.proofs.Lines.{text-met, text-failed, Stands, line-on, finish}
+use Rattle.phone.proofs.Lines.{text-met, text-failed, line-on, finish}
 use Rattle.phone.proofs.listing.put_walk.Needs as need
 
 pub loop-tlv-holds : need.loop-tlv-holds
@@ -27,7 +28,8 @@ returns-in-Err c =
     let h = walk-fails (c .args .picture .now) (k .end) (left k) f (sym (c .in-Err .ensures tt .value)) in
     let t : text (walk-over (c .args .picture .now) (k .end) (left k)) ≡ line (c .from-in-Err .result) (c .address .result) 0 = ap text h ∙ text-failed f ∙ cc in
     let r = finish (c .loop-tlv .out) (c .put-line-in-Err .last .out) (c .loop-tlv .at) (c .loop-tlv .at + 13) _ _ _ _ t (c .put-line-in-Err .ensures .after) (omega arith) (c .loop-tlv .inv .1) in
-    record { value = r .counted; after = r .puts }
+    let d = c .loop-tlv .inv .2 in
+    record { value = r .counted; bound = omega arith; after = r .puts }
 
 pub returns-then-tlv-eq-NDEF-MESSAGE : need.returns-then-tlv-eq-NDEF-MESSAGE
 returns-then-tlv-eq-NDEF-MESSAGE c =
@@ -50,7 +52,9 @@ returns-then-tlv-eq-NDEF-MESSAGE c =
     let f : c .put-line-then-tlv-eq-NDEF-MESSAGE .last .out ≡ over out i (tlv-line t ++ last) = q ∙ ap (λ z. over z (i + 13) last) p ∙ over-over out i (i + 13) (tlv-line t) last (omega arith) (omega arith) in
     let n = length-append (tlv-line t) last in
     let r = finish out (c .put-line-then-tlv-eq-NDEF-MESSAGE .last .out) i (i + 13 + 13) _ _ _ _ x f (omega arith) (c .loop-tlv .inv .1) in
-    record { value = r .counted; after = r .puts }
+    let s = shorter pic (k .end) (left k) (sym (ap isOk (c .in-Ok .ensures tt .value))) in
+    let d = c .loop-tlv .inv .2 in
+    record { value = r .counted; bound = omega arith; after = r .puts }
 
 on : (c : need.Else-tlv-eq-NDEF-MESSAGE) → Moved (c .args .picture .now) (c .loop-tlv .cursor) (c .next-tlv .last .cursor) (c .in-Ok .tlv)
 on c =
@@ -71,6 +75,6 @@ loop-tlv-again c =
     let m = on c in
     let fw = m .fewer in
     let p : c .put-line .last .out ≡ over out i (tlv-line t) = let e = c .put-line .ensures .after in cc in
-    let bd : i + 13 * (length (left (c .loop-tlv .cursor)) + 1) ≤ length out = c .loop-tlv .inv .2 in
+    let bd = c .loop-tlv .inv .2 in
     let st = line-on out (c .put-line .last .out) i t _ _ _ _ (omega arith) (omega arith) (omega arith) (omega arith) (m .finds) p (c .loop-tlv .inv .1) in
     (c .in-Ok .ensures tt .kept .whole, st, omega arith)

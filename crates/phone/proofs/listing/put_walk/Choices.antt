@@ -10,7 +10,7 @@ abbrev pub Inv-loop-tlv : given.InvT-loop-tlv
 Inv-loop-tlv l =
     Whole (l .cursor)
     × Stands (l .out) (l .at) (walk-over (l .picture) (l .cursor .end) (left (l .cursor))) (l .entry .out) (text (walk-over (l .picture) (l .entry .cursor .end) (left (l .entry .cursor))))
-    × (l .at + 13 * (length (left (l .cursor)) + 1) ≤ length (l .out))
+    × (l .at + 13 * (length (left (l .cursor)) + 1) ≤ 13 * (length (left (l .entry .cursor)) + 1))
 
 abbrev pub μ-loop-tlv : given.MeasureT-loop-tlv
 μ-loop-tlv l = length (left (l .cursor))

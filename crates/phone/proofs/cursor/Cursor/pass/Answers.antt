@@ -1,4 +1,4 @@
-use mathlib.Core.Path.{_≡_, ap, _∙_}
+use mathlib.Core.Path.{ap, _∙_}
 use Rattle.phone.specs.Cursors.{left, rest}
 use Rattle.phone.proofs.Addresses.{rest-drop}
 use Rattle.phone.proofs.cursor.Cursor.pass.Needs as need

@@ -1,3 +1,5 @@
+-- constructors that are taken for equal
+pub mod Clashes
 -- the addresses still to be taken
 pub mod Addresses
 -- one TLV, and one after the other

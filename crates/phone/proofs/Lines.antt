@@ -1,23 +1,19 @@
 -- Line after line of a listing.
 use mathlib.Core.Path.{_≡_, refl, sym, ap, _∙_}
-use mathlib.Core.Bool.{Bool, true, false, cond}
 use mathlib.Core.List.{List, _++_, append-assoc}
 use Prim.Native.Nat.{ℕ, _+_, _≤_, _<_}
 use native.Mathlib.Omega.{arith}
-use lib.Dec.{eqb, ltb}
-use lib.ListN.{length, take, length-append}
-use Rattle.std.proofs.shelf.Lists.{append-nil, take-at}
-use Rattle.std.specs.declared.result.Result.the-variants.{Ok, Err}
+use lib.ListN.{length, length-append}
+use Rattle.std.proofs.shelf.Lists.{append-nil}
 use Rattle.air.specs.declared.fault.Fault.{Fault}
-use Rattle.air.specs.declared.fault.Fault.the-variants.{Call}
 use Rattle.air.specs.Faults.{number-of, address-of}
 use Rattle.phone.specs.declared.layout.Tlv.{Tlv}
 use Rattle.phone.specs.Buffers.{over}
-use Rattle.phone.specs.Layout.{Findings, failed, met, onto, walked}
-use Rattle.phone.specs.Listing.{line, tlv-line, last-line, text, listed, listed-into}
+use Rattle.phone.specs.Layout.{Findings, failed, met, onto}
+use Rattle.phone.specs.Listing.{line, tlv-line, last-line, text}
 use Rattle.phone.proofs.Putting.{over-over, line-length}
 
-pub text-onto : (t : Tlv) (w : Findings) → text (onto t w) ≡ tlv-line t ++ text w
+text-onto : (t : Tlv) (w : Findings) → text (onto t w) ≡ tlv-line t ++ text w
 unfolding text
 text-onto t w = append-assoc (tlv-line t) _ (last-line (w .answer))
 
@@ -54,13 +50,3 @@ pub record Finished (fin : List ℕ) (n : ℕ) (s whole : List ℕ) : Type 0 whe
 pub finish : (out fin : List ℕ) (i n : ℕ) (w : Findings) (bs s whole : List ℕ) → text w ≡ bs → fin ≡ over out i bs → n ≡ i + length bs → Stands out i w s whole → Finished fin n s whole
 finish out fin i n w bs s whole t f b st =
     record { puts = f ∙ ap (over out i) (sym t) ∙ st .gives; counted = b ∙ ap (λ z. i + length z) (sym t) ∙ st .counts }
-
--- what a caller finds in the front of its buffer
-pub listed-text : (pic out fin : List ℕ) (n : ℕ) → Ok n ≡ listed pic out → fin ≡ listed-into pic out → take n fin ≡ text (walked pic)
-unfolding over
-listed-text pic out fin n h f = by-cases (eqb (length pic) 256) (ltb (length out) 3133) h f
-  where
-    by-cases : (b a : Bool) → Ok n ≡ cond b (cond a (Err (Call 7 0)) (Ok (length (text (walked pic))))) (Err (Call 6 0)) → fin ≡ cond b (cond a out (over out 0 (text (walked pic)))) out → take n fin ≡ text (walked pic)
-    by-cases true true k g = let z : _≡_ {A = ℕ} 0 1 = cc in let x : ⊥ = omega arith in absurd x
-    by-cases true false k g = let e : n ≡ length (text (walked pic)) = cc in ap (take n) g ∙ take-at (text (walked pic)) _ n (sym e)
-    by-cases false a k g = let z : _≡_ {A = ℕ} 0 1 = cc in let x : ⊥ = omega arith in absurd x

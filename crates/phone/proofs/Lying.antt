@@ -3,11 +3,11 @@ use mathlib.Core.Path.{_≡_, refl, sym, ap, _∙_, subst}
 use mathlib.Core.Bool.{Bool, true, false, cond, not, _&&_}
 use mathlib.Core.List.{List, [], _∷_, _++_, append-assoc}
 use mathlib.Core.Logic.{_⊎_, inl, inr, ⊎-elim}
-use Prim.Native.Nat.{ℕ, zero, suc, _+_, _≤_, _<_}
+use Prim.Native.Nat.{ℕ, zero, suc, _+_, _<_}
 use native.Mathlib.Omega.{arith}
 use lib.Dec.{eqb, leb}
 use lib.ListN.{getD, length, drop, take}
-use Rattle.std.proofs.shelf.Tests.{cases-bool, cond-true, cond-false, ne-eqb, eq-eqb, eqb-true, eqb-false, leb-true, leb-false, false≢true, and-parts}
+use Rattle.std.proofs.shelf.Tests.{cases-bool, cond-true, cond-false, ne-eqb, eq-eqb, eqb-true, eqb-false, leb-false, false≢true, and-parts}
 use Rattle.std.proofs.shelf.Lists.{take-append-drop, length-take-le, getD-take}
 use Rattle.std.specs.shelf.Lists.{All, joined}
 use Rattle.std.specs.Results.{isOk}
@@ -19,8 +19,9 @@ use Rattle.phone.specs.declared.layout.Tlv.{Tlv}
 use Rattle.phone.specs.Areas.{named, outside}
 use Rattle.phone.specs.Layout.{area, area-end, control, named-in, cleared, sized, tlv, valued, beyond, Findings, failed, met, onto, going, walks, walk-over}
 use Rattle.phone.specs.Tiling.{type-of, Null, Sized, Passed, entry, visible, Meets, Lengthy, Fails, nothing-left, terminated, no-length, long, not-three, cut-short, Ends, found, Lies}
-use Rattle.phone.proofs.Steps.{ok-right, ok-left, ok-either, then-three, shorter}
+use Rattle.phone.proofs.Steps.{ok-right, ok-either, then-three, says, shorter}
 use Rattle.phone.proofs.Rising.{Above, Rising, Later, above-left, above-right, rising-right, rising-area, pruned, all-pruned, rising-pruned, visible-++, visible-nil, pruning, front-visible}
+use Rattle.phone.proofs.Clashes.{clash}
 
 -- what is found among the addresses l
 record Rest (pic : List ℕ) (e : ℕ) (l : List ℕ) (w : Findings) : Type 0 where
@@ -90,29 +91,24 @@ null-read pic x l t k h =
     }
 
 sized-read : (pic : List ℕ) (x : ℕ) (l : List ℕ) (t : Tlv) → (getD pic x 0 ≡ 0 → ⊥) → (getD pic x 0 ≡ 0xfe → ⊥) → sized pic x (getD pic x 0) l ≡ Ok t → Reads pic (x ∷ l) t
-sized-read pic x [] t z f h = let y : _≡_ {A = ℕ} 0 1 = cc in let b : ⊥ = omega arith in absurd b
+sized-read pic x [] t z f h = clash (cc)
 sized-read pic x (q ∷ vs) t z f h =
     let n : ℕ = getD pic q 0 in
-    let k : ℕ = getD pic x 0 in
-    let a = ok-right (eqb n 255) (Layout 12 x) _ t h in
-    let b = ok-right (control k && not (eqb n 3)) (Layout 10 x) _ t (a .1) in
-    let c = ok-left (leb n (length vs)) _ (Layout 11 x) t (b .1) in
-    let en : n ≤ length vs = leb-true n (length vs) (c .0) in
-    let th : control k ≡ true → n ≡ 3 = λ y. eqb-true n 3 (then-three (control k) (eqb n 3) (b .0) y) in
-    let lt = length-take-le n vs en in
+    let r = says pic x q vs t h in
+    let l = length-take-le n vs (r .enough) in
     record {
       mine = x ∷ q ∷ take n vs;
       more = drop n vs;
       split = ap (λ y. x ∷ q ∷ y) (sym (take-append-drop n vs));
-      form = inr (record { full = omega arith; not-null = z; not-long = eqb-false n 255 (a .0); three = th });
+      form = inr (record { full = omega arith; not-null = z; not-long = r .not-long; three = r .three });
       not-end = f;
-      on = cond-false _ _ _ (ne-eqb _ _ z) ∙ pruned-same pic x q n vs th;
-      is-entry = cond-false _ _ _ (ne-eqb _ _ z) ∙ c .1;
-      is-type = sym (ap (λ (y : Tlv). y .kind) (c .1));
+      on = cond-false _ _ _ (ne-eqb _ _ z) ∙ pruned-same pic x q n vs (r .three);
+      is-entry = cond-false _ _ _ (ne-eqb _ _ z) ∙ r .is;
+      is-type = sym (ap (λ (y : Tlv). y .kind) (r .is));
     }
 
 reads : (pic : List ℕ) (e : ℕ) (l : List ℕ) (t : Tlv) → tlv pic e l ≡ Ok t → Reads pic l t
-reads pic e [] t h = let y : _≡_ {A = ℕ} 0 1 = cc in let b : ⊥ = omega arith in absurd b
+reads pic e [] t h = clash (cc)
 reads pic e (x ∷ l) t h =
     ⊎-elim
     (λ p. null-read pic x l t (eqb-true (getD pic x 0) 0 (p .0)) (p .1))
@@ -123,35 +119,30 @@ reads pic e (x ∷ l) t h =
 -- a message that is read stands first
 
 sized-meets : (pic : List ℕ) (x : ℕ) (l : List ℕ) (t : Tlv) → eqb (getD pic x 0) 0 ≡ false → sized pic x (getD pic x 0) l ≡ Ok t → t .kind ≡ 3 → Meets pic (x ∷ l) (met t (valued pic (x ∷ l)))
-sized-meets pic x [] t z h k3 = let y : _≡_ {A = ℕ} 0 1 = cc in let b : ⊥ = omega arith in absurd b
+sized-meets pic x [] t z h k3 = clash (cc)
 sized-meets pic x (q ∷ vs) t z h k3 =
     let n : ℕ = getD pic q 0 in
-    let k : ℕ = getD pic x 0 in
-    let a = ok-right (eqb n 255) (Layout 12 x) _ t h in
-    let b = ok-right (control k && not (eqb n 3)) (Layout 10 x) _ t (a .1) in
-    let c = ok-left (leb n (length vs)) _ (Layout 11 x) t (b .1) in
-    let en : n ≤ length vs = leb-true n (length vs) (c .0) in
+    let r = says pic x q vs t h in
     let v : valued pic (x ∷ q ∷ vs) ≡ vs = cond-false _ _ _ z in
-    let u : Tlv = record { at = x; kind = k; length = n; place = q + 1 } in
-    let ku : k ≡ 3 = ap (λ (y : Tlv). y .kind) (c .1) ∙ k3 in
     let F : ℕ → Tlv = λ y. record { at = x; kind = y; length = n; place = q + 1 } in
-    let lt = length-take-le n vs en in
-    let r : Meets pic (x ∷ q ∷ vs) (met u vs) = record {
+    let is-3 : getD pic x 0 ≡ 3 = ap (λ (y : Tlv). y .kind) (r .is) ∙ k3 in
+    let m : Meets pic (x ∷ q ∷ vs) (met (F (getD pic x 0)) vs) =
+    record {
       type-at = x;
       length-at = q;
       behind = drop n vs;
       split = ap (λ y. x ∷ q ∷ y) (sym (take-append-drop n vs));
-      is-message = ku;
-      not-long = eqb-false n 255 (a .0);
-      whole = lt;
+      is-message = is-3;
+      not-long = r .not-long;
+      whole = length-take-le n vs (r .enough);
       answers = refl;
-      lists = ap (λ y. F y ∷ []) ku;
+      lists = ap (λ y. F y ∷ []) is-3;
     } in
-    let r2 : Meets pic (x ∷ q ∷ vs) (met t vs) = subst (λ y. Meets pic (x ∷ q ∷ vs) (met y vs)) (c .1) r in
-    subst (λ y. Meets pic (x ∷ q ∷ vs) (met t y)) (sym v) r2
+    let mt : Meets pic (x ∷ q ∷ vs) (met t vs) = subst (λ y. Meets pic (x ∷ q ∷ vs) (met y vs)) (r .is) m in
+    subst (λ y. Meets pic (x ∷ q ∷ vs) (met t y)) (sym v) mt
 
 meets : (pic : List ℕ) (e : ℕ) (l : List ℕ) (t : Tlv) → tlv pic e l ≡ Ok t → t .kind ≡ 3 → Meets pic l (met t (valued pic l))
-meets pic e [] t h k = let y : _≡_ {A = ℕ} 0 1 = cc in let b : ⊥ = omega arith in absurd b
+meets pic e [] t h k = clash (cc)
 meets pic e (x ∷ l) t h k =
     ⊎-elim
     (λ p. let y = ap (λ (z : Tlv). z .kind) (p .1) in let b : ⊥ = omega arith in absurd b)
@@ -165,7 +156,7 @@ err-right true g f r h = inl (refl, cc)
 err-right false g f r h = inr (refl, h)
 
 err-past : (b : Bool) (u : Tlv) (f : Fault) (r : Result Tlv Fault) → cond b (Ok u) r ≡ Err f → (b ≡ false) × (r ≡ Err f)
-err-past true u f r h = let z : _≡_ {A = ℕ} 0 1 = cc in let x : ⊥ = omega arith in absurd x
+err-past true u f r h = clash (cc)
 err-past false u f r h = (refl, h)
 
 same-fault : (g f : Fault) → _≡_ {A = Result Tlv Fault} (Err g) (Err f) → g ≡ f

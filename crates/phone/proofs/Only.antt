@@ -2,7 +2,7 @@
 use mathlib.Core.Path.{_≡_, refl, sym, ap, _∙_, subst}
 use mathlib.Core.Bool.{Bool, true, false, not, _&&_}
 use mathlib.Core.List.{List, [], _∷_, _++_, append-assoc}
-use mathlib.Core.Logic.{_⊎_, ⊎-elim}
+use mathlib.Core.Logic.{⊎-elim}
 use Prim.Native.Nat.{ℕ, _+_, _≤_, _<_}
 use native.Mathlib.Omega.{arith}
 use lib.Dec.{eqb}
@@ -22,6 +22,7 @@ use Rattle.phone.proofs.Steps.{walk-fails, walk-meets, walk-passes}
 use Rattle.phone.proofs.Rising.{Above, Rising, rising-left, rising-right, crossing, rising-area, pruned, rising-pruned, visible-nil, all-visible, rising-visible, pruning, five, fifth, hides-control, hidden-all-past}
 use Rattle.phone.proofs.Blocks.{blockwise}
 use Rattle.phone.proofs.Lying.{pruned-same, lies}
+use Rattle.phone.proofs.Clashes.{clash}
 
 -- what stands first is what the rules of one TLV give
 
@@ -137,7 +138,7 @@ head-same x y xs ys h = (cc, cc)
 front : (pic : List ℕ) (ms : List (List ℕ)) (l m xs : List ℕ) → Rising l → visible pic ms l ≡ m ++ xs → ((a : ℕ) → hidden pic ms a ≡ true → All (λ y. y < a) m) → Front pic ms l m xs
 unfolding visible
 front pic ms l [] xs u v h = record { more = l; split = refl; then = v }
-front pic ms [] (y ∷ m) xs u v h = let z : _≡_ {A = ℕ} 0 1 = cc in let b : ⊥ = omega arith in absurd b
+front pic ms [] (y ∷ m) xs u v h = clash (cc)
 front pic ms (x ∷ l) (y ∷ m) xs u v h =
     ⊎-elim
     (λ t.

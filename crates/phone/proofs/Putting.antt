@@ -14,7 +14,7 @@ over-one : (s : List ℕ) (i a : ℕ) → i < length s → set s i a ≡ over s 
 unfolding over
 over-one s i a h = rw (add-one i) (set-split s i a h)
 
-pub over-length : (s : List ℕ) (i : ℕ) (bs : List ℕ) → i + length bs ≤ length s → length (over s i bs) ≡ length s
+over-length : (s : List ℕ) (i : ℕ) (bs : List ℕ) → i + length bs ≤ length s → length (over s i bs) ≡ length s
 unfolding over
 over-length s i bs h =
     let t : length (take i s) ≡ i = length-take-le i s (omega arith) in
@@ -54,7 +54,7 @@ over-four s i a b c d h =
 pub columned : (s : List ℕ) (i n : ℕ) (a b c : ℕ) → n < 10000 → i + 4 ≤ length s → a ∷ b ∷ c ∷ (48 + n % 10) ∷ [] ≡ spread n → set (set (set (set s i a) (i + 1) b) (i + 2) c) (i + 3) (48 + n % 10) ≡ over s i (column n)
 columned s i n a b c h l e = over-four s i a b c (48 + n % 10) l ∙ ap (over s i) (e ∙ sym (by-digits n h))
 
-pub column-length : (n : ℕ) → n < 10000 → length (column n) ≡ 4
+column-length : (n : ℕ) → n < 10000 → length (column n) ≡ 4
 column-length n h = ap length (by-digits n h)
 
 -- three columns and the end of the line

@@ -2,7 +2,7 @@
 use mathlib.Core.Path.{_≡_, refl, sym, ap, _∙_}
 use mathlib.Core.Bool.{Bool, true, false, cond, _&&_, _||_}
 use mathlib.Core.List.{List, [], _∷_, _++_}
-use mathlib.Core.Logic.{_⊎_, ⊎-elim}
+use mathlib.Core.Logic.{⊎-elim}
 use Prim.Native.Nat.{ℕ, zero, suc, _+_, _*_, _≤_, _<_}
 use native.Mathlib.Omega.{arith}
 use lib.ListN.{getD, length}
@@ -95,7 +95,7 @@ visible-++ pic ms (x ∷ xs) ys =
     elim (hidden pic ms x) as (λ b. cond b (visible pic ms (xs ++ ys)) (x ∷ visible pic ms (xs ++ ys)) ≡ cond b (visible pic ms xs) (x ∷ visible pic ms xs) ++ visible pic ms ys)
     [ true ↦ h | false ↦ ap (λ z. x ∷ z) h ]
 
-pub visible-all : (pic : List ℕ) (ms : List (List ℕ)) (xs : List ℕ) → All (λ a. hidden pic ms a ≡ false) xs → visible pic ms xs ≡ xs
+visible-all : (pic : List ℕ) (ms : List (List ℕ)) (xs : List ℕ) → All (λ a. hidden pic ms a ≡ false) xs → visible pic ms xs ≡ xs
 unfolding visible
 visible-all pic ms [] h = refl
 visible-all pic ms (x ∷ xs) h = cond-false _ _ _ (h .0) ∙ ap (λ z. x ∷ z) (visible-all pic ms xs (h .1))

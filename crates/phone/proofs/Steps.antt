@@ -8,7 +8,7 @@ use native.Mathlib.Omega.{arith}
 use native.Mathlib.Numerals.{add-one}
 use lib.Dec.{eqb, leb}
 use lib.ListN.{getD, length, drop, length-drop, replicate}
-use Rattle.std.proofs.shelf.Tests.{cond-true, cond-false, cond-both, ne-eqb, eq-eqb, eqb-true, leb-true, and-parts, false≢true}
+use Rattle.std.proofs.shelf.Tests.{cond-true, cond-false, cond-both, ne-eqb, eq-eqb, eqb-true, eqb-false, leb-true, and-parts, false≢true}
 use Rattle.std.specs.Results.{isOk}
 use Rattle.std.specs.Iters.{counting}
 use Rattle.std.specs.declared.result.Result.{Result}
@@ -22,16 +22,17 @@ use Rattle.phone.specs.declared.layout.Tlv.{Tlv}
 use Rattle.phone.specs.Areas.{inside, outside}
 use Rattle.phone.specs.Cursors.{Whole, free, left, fresh}
 use Rattle.phone.specs.Layout.{area-end, area, accepted, opened, byte, control, named-in, cleared, sized, tlv, valued, past-length, beyond, Findings, failed, met, onto, going, walks, walk-over, walked, onward}
+use Rattle.phone.proofs.Clashes.{clash}
 
 -- what one TLV that is read says of its value
 
 pub ok-right : (b : Bool) (g : Fault) (r : Result Tlv Fault) (t : Tlv) → cond b (Err g) r ≡ Ok t → (b ≡ false) × (r ≡ Ok t)
-ok-right true g r t h = let z : _≡_ {A = ℕ} 0 1 = cc in let x : ⊥ = omega arith in absurd x
+ok-right true g r t h = clash (cc)
 ok-right false g r t h = (refl, h)
 
-pub ok-left : (b : Bool) (u : Tlv) (g : Fault) (t : Tlv) → cond b (Ok u) (Err g) ≡ Ok t → (b ≡ true) × (u ≡ t)
+ok-left : (b : Bool) (u : Tlv) (g : Fault) (t : Tlv) → cond b (Ok u) (Err g) ≡ Ok t → (b ≡ true) × (u ≡ t)
 ok-left true u g t h = (refl, cc)
-ok-left false u g t h = let z : _≡_ {A = ℕ} 0 1 = cc in let x : ⊥ = omega arith in absurd x
+ok-left false u g t h = clash (cc)
 
 pub ok-either : (b : Bool) (u : Tlv) (r : Result Tlv Fault) (t : Tlv) → cond b (Ok u) r ≡ Ok t → ((b ≡ true) × (u ≡ t)) ⊎ ((b ≡ false) × (r ≡ Ok t))
 ok-either true u r t h = inl (refl, cc)
@@ -42,43 +43,55 @@ then-three true true h k = refl
 then-three true false h k = sym h
 then-three false d h k = absurd (false≢true k)
 
-pub record Fits (pic l : List ℕ) (t : Tlv) : Type 0 where
-  pub three : control (t .kind) ≡ true → t .length ≡ 3
-  pub enough : t .length ≤ length (valued pic l)
-  pub kind-is : t .kind ≡ byte pic l 0
-  pub then : beyond pic l ≡ cleared pic (t .kind) (t .length) (valued pic l)
+-- a TLV with a length that is read: what its length byte says holds
+pub record Says (pic : List ℕ) (x q : ℕ) (vs : List ℕ) (t : Tlv) : Type 0 where
+  pub not-long : getD pic q 0 ≡ 255 → ⊥
+  pub three : control (getD pic x 0) ≡ true → getD pic q 0 ≡ 3
+  pub enough : getD pic q 0 ≤ length vs
+  pub is : record { at = x; kind = getD pic x 0; length = getD pic q 0; place = q + 1 } ≡ t
 
-null-fits : (pic : List ℕ) (x : ℕ) (l : List ℕ) → eqb (getD pic x 0) 0 ≡ true → Fits pic (x ∷ l) (record { at = x; kind = 0; length = 0; place = x + 1 })
-null-fits pic x l b = record { three = λ c. absurd (false≢true c); enough = omega arith; kind-is = sym (eqb-true _ _ b); then = cond-true _ _ _ b ∙ sym (cond-true _ _ _ b) }
-
-sized-fits : (pic : List ℕ) (x : ℕ) (l : List ℕ) (t : Tlv) → eqb (getD pic x 0) 0 ≡ false → sized pic x (getD pic x 0) l ≡ Ok t → Fits pic (x ∷ l) t
-sized-fits pic x [] t z h = let y : _≡_ {A = ℕ} 0 1 = cc in let b : ⊥ = omega arith in absurd b
-sized-fits pic x (q ∷ vs) t z h =
+pub says : (pic : List ℕ) (x q : ℕ) (vs : List ℕ) (t : Tlv) → sized pic x (getD pic x 0) (q ∷ vs) ≡ Ok t → Says pic x q vs t
+says pic x q vs t h =
     let n : ℕ = getD pic q 0 in
     let k : ℕ = getD pic x 0 in
     let a = ok-right (eqb n 255) (Layout 12 x) _ t h in
     let b = ok-right (control k && not (eqb n 3)) (Layout 10 x) _ t (a .1) in
     let c = ok-left (leb n (length vs)) _ (Layout 11 x) t (b .1) in
-    let v : valued pic (x ∷ q ∷ vs) ≡ vs = cond-false _ _ _ z in
-    let e : n ≤ length vs = leb-true n (length vs) (c .0) in
-    let lv = ap length v in
-    let u : Tlv = record { at = x; kind = k; length = n; place = q + 1 } in
-    let r : Fits pic (x ∷ q ∷ vs) u = record {
+    record {
+      not-long = eqb-false n 255 (a .0);
       three = λ y. eqb-true n 3 (then-three (control k) (eqb n 3) (b .0) y);
-      enough = omega arith;
-      kind-is = refl;
-      then = cond-false _ _ _ z ∙ sym (ap (cleared pic k n) v);
-    } in
-    subst (Fits pic (x ∷ q ∷ vs)) (c .1) r
+      enough = leb-true n (length vs) (c .0);
+      is = c .1;
+    }
 
-pub fits : (pic : List ℕ) (e : ℕ) (l : List ℕ) (t : Tlv) → Ok t ≡ tlv pic e l → Fits pic l t
-fits pic e [] t h = let y : _≡_ {A = ℕ} 0 1 = cc in let b : ⊥ = omega arith in absurd b
+record Fits (pic l : List ℕ) (t : Tlv) : Type 0 where
+  three : control (t .kind) ≡ true → t .length ≡ 3
+  enough : t .length ≤ length (valued pic l)
+  kind-is : t .kind ≡ byte pic l 0
+  then : beyond pic l ≡ cleared pic (t .kind) (t .length) (valued pic l)
+
+null-fits : (pic : List ℕ) (x : ℕ) (l : List ℕ) → eqb (getD pic x 0) 0 ≡ true → Fits pic (x ∷ l) (record { at = x; kind = 0; length = 0; place = x + 1 })
+null-fits pic x l b = record { three = λ c. absurd (false≢true c); enough = omega arith; kind-is = sym (eqb-true _ _ b); then = cond-true _ _ _ b ∙ sym (cond-true _ _ _ b) }
+
+sized-fits : (pic : List ℕ) (x : ℕ) (l : List ℕ) (t : Tlv) → eqb (getD pic x 0) 0 ≡ false → sized pic x (getD pic x 0) l ≡ Ok t → Fits pic (x ∷ l) t
+sized-fits pic x [] t z h = clash (cc)
+sized-fits pic x (q ∷ vs) t z h =
+    let r = says pic x q vs t h in
+    let e = r .enough in
+    let v : valued pic (x ∷ q ∷ vs) ≡ vs = cond-false _ _ _ z in
+    let l = ap length v in
+    let u : Fits pic (x ∷ q ∷ vs) (record { at = x; kind = getD pic x 0; length = getD pic q 0; place = q + 1 }) =
+    record { three = r .three; enough = omega arith; kind-is = refl; then = cond-false _ _ _ z ∙ sym (ap (cleared pic (getD pic x 0) (getD pic q 0)) v) } in
+    subst (Fits pic (x ∷ q ∷ vs)) (r .is) u
+
+fits : (pic : List ℕ) (e : ℕ) (l : List ℕ) (t : Tlv) → Ok t ≡ tlv pic e l → Fits pic l t
+fits pic e [] t h = clash (cc)
 fits pic e (x ∷ l) t h =
     ⊎-elim (λ p. subst (Fits pic (x ∷ l)) (p .1) (null-fits pic x l (p .0)))
     (λ p. sized-fits pic x l t (p .0) (ok-right (eqb (getD pic x 0) 0xfe) (Layout 13 x) _ t (p .1) .1))
     (ok-either (eqb (getD pic x 0) 0) _ _ t (sym h))
 
-pub onward-passed : (pic l : List ℕ) (t : Tlv) → Fits pic l t → (t .kind ≡ 3 → ⊥) → onward pic l ≡ beyond pic l
+onward-passed : (pic l : List ℕ) (t : Tlv) → Fits pic l t → (t .kind ≡ 3 → ⊥) → onward pic l ≡ beyond pic l
 onward-passed pic l t f k = cond-false _ _ _ (ne-eqb _ _ (λ e. k (f .kind-is ∙ e)))
 
 -- the walk does not depend on how many turns it is given beyond those it needs
@@ -137,6 +150,17 @@ walk-passes pic e l t h k =
     let q : walks pic e (suc (length l)) l ≡ going (valued pic l) (Ok t) (walks pic e (length l) (beyond pic l)) = ap (λ z. going (valued pic l) z (walks pic e (length l) (beyond pic l))) h in
     q ∙ cond-false _ _ _ (ne-eqb _ _ k) ∙ ap (onto t) g
 
+-- the same of the answer
+
+answered : (w v : Findings) → w ≡ v → v .answer ≡ w .answer
+answered w v e = sym (ap (λ (z : Findings). z .answer) e)
+
+pub answer-fails : (pic : List ℕ) (e : ℕ) (l : List ℕ) (f : Fault) → Err f ≡ tlv pic e l → Err f ≡ walk-over pic e l .answer
+answer-fails pic e l f h = answered (walk-over pic e l) (failed f) (walk-fails pic e l f (sym h))
+
+pub answer-meets : (pic : List ℕ) (e : ℕ) (l : List ℕ) (t : Tlv) → Ok t ≡ tlv pic e l → t .kind ≡ 3 → Ok (record { place = t .place; length = t .length }) ≡ walk-over pic e l .answer
+answer-meets pic e l t h k = answered (walk-over pic e l) (met t (valued pic l)) (walk-meets pic e l t (sym h) k)
+
 -- where a walk begins
 
 unskipped : (n k : ℕ) → getD (replicate n false) k false ≡ false
@@ -171,8 +195,8 @@ pub record Opened (pic : List ℕ) (c : Cursor) : Type 0 where
 
 is-open : (pic : List ℕ) (c : Cursor) (b a : Bool) → cond b (cond a (Ok (fresh (area-end pic))) (Err (Layout 9 12))) (Err (Call 6 0)) ≡ Ok c → (b ≡ true) × (a ≡ true) × (fresh (area-end pic) ≡ c)
 is-open pic c true true h = (refl, refl, cc)
-is-open pic c true false h = let z : _≡_ {A = ℕ} 0 1 = cc in let b : ⊥ = omega arith in absurd b
-is-open pic c false a h = let z : _≡_ {A = ℕ} 0 1 = cc in let b : ⊥ = omega arith in absurd b
+is-open pic c true false h = clash (cc)
+is-open pic c false a h = clash (cc)
 
 whole-fresh : (e : ℕ) → 16 ≤ e → e ≤ 256 → Whole (fresh e)
 unfolding fresh
@@ -182,7 +206,7 @@ end-fresh : (e : ℕ) → fresh e .end ≡ e
 unfolding fresh
 end-fresh e = refl
 
-pub accepted-end : (pic : List ℕ) → accepted pic ≡ true → area-end pic ≤ 256
+accepted-end : (pic : List ℕ) → accepted pic ≡ true → area-end pic ≤ 256
 accepted-end pic h =
     let p = and-parts (eqb (getD pic 12 0) 0xe1) (eqb (getD pic 13 0 / 16) 1 && leb (area-end pic) 256) h in
     leb-true (area-end pic) 256 (and-parts (eqb (getD pic 13 0 / 16) 1) (leb (area-end pic) 256) (p .1) .1)
@@ -198,7 +222,7 @@ opening pic c h =
     rw (← o .2) (record { is-whole = w; is-picture = eqb-true _ _ (o .0); finds = g ∙ sym (cond-true _ _ _ (o .0) ∙ cond-true _ _ _ (o .1)); few = omega arith })
 
 refused : (pic : List ℕ) (f : Fault) (w : Findings) (b a : Bool) → Err f ≡ cond b (cond a (Ok (fresh (area-end pic))) (Err (Layout 9 12))) (Err (Call 6 0)) → cond b (cond a w (failed (Layout 9 12))) (failed (Call 6 0)) ≡ failed f
-refused pic f w true true k = let z : _≡_ {A = ℕ} 0 1 = cc in let b : ⊥ = omega arith in absurd b
+refused pic f w true true k = clash (cc)
 refused pic f w true false k = let e : f ≡ Layout 9 12 = cc in ap failed (sym e)
 refused pic f w false a k = let e : f ≡ Call 6 0 = cc in ap failed (sym e)
 
@@ -206,7 +230,7 @@ pub not-opening : (pic : List ℕ) (f : Fault) → Err f ≡ opened pic → walk
 not-opening pic f h = refused pic f _ (eqb (length pic) 256) (accepted pic) h
 
 near : (pic : List ℕ) (f : Fault) (b a : Bool) → Err f ≡ cond b (cond a (Ok (fresh (area-end pic))) (Err (Layout 9 12))) (Err (Call 6 0)) → address-of f ≤ 256
-near pic f true true k = let z : _≡_ {A = ℕ} 0 1 = cc in let b : ⊥ = omega arith in absurd b
+near pic f true true k = clash (cc)
 near pic f true false k = let e : f ≡ Layout 9 12 = cc in omega (arith, ap address-of e)
 near pic f false a k = let e : f ≡ Call 6 0 = cc in omega (arith, ap address-of e)
 

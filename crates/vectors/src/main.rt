@@ -130,9 +130,16 @@ fn answer(heap: Global, line: &str) -> Result<Vec<u8>, AnyError> {
 }
 
 fn run(rt: &LibcRuntime) -> Result<(), AnyError> {
+    let heap = rt.alloc();
     let mut out = rt.stdout();
-    for line in BufReader::new(rt.stdin()).lines(rt.alloc()) {
-        out.write_all(&answer(rt.alloc(), &line?)?)?;
+    for (i, line) in BufReader::new(rt.stdin()).lines(heap).enumerate() {
+        match answer(heap, &line?) {
+            Ok(text) => out.write_all(&text)?,
+            Err(error) => {
+                let number = i.saturating_add(1);
+                return Err(format!(heap, "line {number}: {error}")?.into());
+            }
+        }
     }
     Ok(())
 }

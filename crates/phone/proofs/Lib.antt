@@ -4,6 +4,8 @@ pub mod Clashes
 pub mod Addresses
 -- one TLV, and one after the other
 pub mod Steps
+-- where a walk begins
+pub mod Openings
 -- a lock area by blocks
 pub mod Blocks
 -- addresses in rising order, and what of them is visible

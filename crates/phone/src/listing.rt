@@ -20,6 +20,8 @@ use air::fault::Fault;
 // The bytes of the longest listing: 240 null TLVs and the last line.
 pub const LONGEST: usize = 3133;
 
+const LINE: usize = 13;
+
 // The digit of n at a unit, or a space in front of the number.
 fn digit_at(n: u16, unit: u16) -> u8
     requires { ⌜ 0 < unit ⌝ }
@@ -66,15 +68,15 @@ fn put_walk(out: &mut [u8], mut cursor: Cursor, picture: &[u8]) -> usize
         match next_tlv(&mut cursor, picture) {
             Ok(tlv) => {
                 put_line(out, at, tlv.at, u16::from(tlv.kind), u16::from(tlv.length));
-                at += 13;
+                at += LINE;
                 if tlv.kind == NDEF_MESSAGE {
                     put_line(out, at, 0, tlv.place, u16::from(tlv.length));
-                    return at + 13;
+                    return at + LINE;
                 }
             }
             Err(fault) => {
                 put_line(out, at, u16::from(fault.number()), fault.address(), 0);
-                return at + 13;
+                return at + LINE;
             }
         }
     }
@@ -92,7 +94,7 @@ fn put_listing(out: &mut [u8], picture: &[u8]) -> usize
         Ok(cursor) => put_walk(out, cursor, picture),
         Err(fault) => {
             put_line(out, 0, u16::from(fault.number()), fault.address(), 0);
-            13
+            LINE
         }
     }
 }

@@ -3,7 +3,8 @@ use Rattle.std.specs.declared.result.Result.the-variants.{Err}
 use Rattle.std.proofs.shelf.Results.{err-from-errBy}
 use Rattle.phone.specs.Cursors.{left}
 use Rattle.phone.specs.Layout.{Findings}
-use Rattle.phone.proofs.Steps.{answer-fails, answer-meets, opening, not-opening, Moved, moving}
+use Rattle.phone.proofs.Openings.{opening, not-opening}
+use Rattle.phone.proofs.Steps.{answer-fails, answer-meets, Moved, moving}
 use Rattle.phone.proofs.Only.{read-off}
 use Rattle.phone.proofs.layout.walk.Needs as need
 

@@ -4,7 +4,7 @@ use lib.ListN.{length}
 use Rattle.phone.specs.Buffers.{over}
 use Rattle.phone.specs.Layout.{walked}
 use Rattle.phone.specs.Listing.{line, text}
-use Rattle.phone.proofs.Steps.{opening, not-opening, refused-near}
+use Rattle.phone.proofs.Openings.{opening, not-opening, refused-near}
 use Rattle.phone.proofs.Putting.{line-length}
 use Rattle.phone.proofs.Lines.{text-failed}
 use Rattle.phone.proofs.Only.{laid-out}

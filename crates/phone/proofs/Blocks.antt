@@ -8,8 +8,8 @@ use lib.Dec.{leb, ltb}
 use Rattle.std.proofs.shelf.Tests.{and-parts, and-from, leb-true, ltb-true, le-leb, lt-ltb, cases-lt}
 use Rattle.phone.specs.Areas.{inside, lock-area, Touched, Blockwise}
 
-touched : (a n x : ℕ) → 0 < n → inside (lock-area a n) x ≡ true → Touched a n x
-touched a n x p h =
+only : (a n x : ℕ) → 0 < n → inside (lock-area a n) x ≡ true → Touched a n x
+only a n x p h =
     let q = and-parts (leb (a / 4 * 4) x) (ltb x ((a + (n + 7) / 8 + 3) / 4 * 4)) h in
     let l : a / 4 * 4 ≤ x = leb-true (a / 4 * 4) x (q .0) in
     let u : x < (a + (n + 7) / 8 + 3) / 4 * 4 = ltb-true x ((a + (n + 7) / 8 + 3) / 4 * 4) (q .1) in
@@ -18,8 +18,8 @@ touched a n x p h =
     (λ s. record { byte = x / 4 * 4; from-start = s; holds-a-bit = omega arith; same-block = omega arith })
     (cases-lt (x / 4 * 4) a)
 
-untouched : (a n x : ℕ) → Touched a n x → inside (lock-area a n) x ≡ true
-untouched a n x t =
+all : (a n x : ℕ) → Touched a n x → inside (lock-area a n) x ≡ true
+all a n x t =
     let b : ℕ = t .byte in
     let f = t .from-start in
     let k = t .holds-a-bit in
@@ -29,4 +29,4 @@ untouched a n x t =
     and-from _ _ (le-leb (a / 4 * 4) x l) (lt-ltb x ((a + (n + 7) / 8 + 3) / 4 * 4) u)
 
 pub blockwise : Blockwise
-blockwise = record { all-touched = touched; no-others = untouched }
+blockwise = record { only-touched = only; all-touched = all }

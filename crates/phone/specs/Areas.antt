@@ -41,10 +41,10 @@ pub record Touched (a n x : ℕ) : Type 0 where
   pub holds-a-bit : 8 * (byte - a) < n
   pub same-block : byte / 4 ≡ x / 4
 
--- the lock area has the addresses that are touched, and no others
+-- a lock area, which has at least one bit, has only addresses that are touched, and all of them
 pub record Blockwise : Type 0 where
-  pub all-touched : (a n x : ℕ) → 0 < n → inside (lock-area a n) x ≡ true → Touched a n x
-  pub no-others : (a n x : ℕ) → Touched a n x → inside (lock-area a n) x ≡ true
+  pub only-touched : (a n x : ℕ) → 0 < n → inside (lock-area a n) x ≡ true → Touched a n x
+  pub all-touched : (a n x : ℕ) → Touched a n x → inside (lock-area a n) x ≡ true
 
 -- n reserved bytes from address a on
 abbrev pub reserved-area : ℕ → ℕ → Area

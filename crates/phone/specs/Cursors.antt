@@ -2,7 +2,7 @@
 use mathlib.Core.Path.{_≡_}
 use mathlib.Core.Bool.{Bool, false, cond}
 use mathlib.Core.List.{List, [], _∷_}
-use Prim.Native.Nat.{ℕ, zero, suc, _-_, _≤_}
+use Prim.Native.Nat.{ℕ, zero, suc, _-_, _≤_, _<_}
 use lib.ListN.{getD, replicate}
 use Rattle.std.specs.declared.option.Option.{Option}
 use Rattle.std.specs.declared.option.Option.the-variants.{Some, None}
@@ -33,6 +33,11 @@ fresh e = record { next = 16; end = e; skipped = replicate 256 false }
 abbrev pub first : List ℕ → Option ℕ
 first [] = None
 first (a ∷ l) = Some a
+
+-- an address that is taken lies before e
+abbrev pub Before : ℕ → Option ℕ → Type 0
+Before e None = Unit {0}
+Before e (Some a) = a < e
 
 abbrev pub rest : List ℕ → List ℕ
 rest [] = []

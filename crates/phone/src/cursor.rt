@@ -1,10 +1,8 @@
 // How far a walk has come in its area, and which addresses it skips.
 ghost use mathlib.Core.Path.{_≡_};
-ghost use Prim.Native.Nat.{_<_, _≤_};
 ghost use lib.ListN.{length, drop};
-ghost use Rattle.std.specs.declared.option.Option.the-variants.{Some, None};
 ghost use Rattle.phone.specs.Areas.{outside};
-ghost use Rattle.phone.specs.Cursors.{Whole, Kept, left, first, rest, fresh};
+ghost use Rattle.phone.specs.Cursors.{Before, Whole, Kept, left, first, rest, fresh};
 use crate::area::Area;
 
 pub(crate) const AREA_START: u16 = 16;
@@ -39,7 +37,7 @@ impl Cursor {
     pub(crate) fn take(&mut self) -> Option<u16>
         requires { ⌜ Whole (now self) ⌝ }
         ensures value { λ r. ⌜ r ≡ first (left (now (self .entry))) ⌝ }
-        ensures bound { λ r. ⌜ elim r [ Some a ↦ a < now (self .entry) .end | None ↦ 0 ≤ 0 ] ⌝ }
+        ensures bound { λ r. ⌜ Before (now (self .entry) .end) r ⌝ }
         ensures after { λ _. ⌜ left (now (self .exit)) ≡ rest (left (now (self .entry))) ⌝ }
         ensures kept { λ _. ⌜ Kept (now (self .entry)) (now (self .exit)) ⌝ }
     {

@@ -17,7 +17,7 @@ fn padded_picture(bytes: &[u8]) -> [u8; 256]
     picture
 }
 
-// Puts the listing of that picture first into a buffer, whose later bytes are kept: the number of bytes put.
+// Puts the listing of the picture that begins with these bytes first into a buffer, whose later bytes are kept: the number of bytes put.
 pub fn list_padded(bytes: &[u8], out: &mut [u8]) -> Result<usize, Fault>
     ensures value { λ r. ⌜ r ≡ put (now (bytes .entry)) (now (out .entry)) ⌝ }
     ensures bound { λ r. ⌜ made r (λ n. n ≤ 3133) ⌝ }

@@ -27,4 +27,4 @@ returns c =
     let h : s .end ≤ a = omega arith in
     let e = sym (free-none (s .skipped) a (s .end) h) ∙ c .loop-at .inv .1 in
     let z = free-none (s .skipped) (s .end) (s .end) (omega arith) in
-    record { value = ap first e; bound = omega arith; after = z ∙ ap rest e; kept = record { whole = record { within = omega arith; small = omega arith }; same-end = c .loop-at .inv .0 } }
+    record { value = ap first e; bound = tt; after = z ∙ ap rest e; kept = record { whole = record { within = omega arith; small = omega arith }; same-end = c .loop-at .inv .0 } }

@@ -37,9 +37,8 @@ pub fn crc_a(bytes: &[u8]) -> u16
     u16::from_le_bytes([register.low, register.high])
 }
 
-// The same for the phone app in C.
-#[unsafe(no_mangle)]
-pub extern "C" fn youthgoat_crc_a(bytes: &[u8]) -> u16
+// The same for the phone app in C, which air_c exports.
+pub fn youthgoat_crc_a(bytes: &[u8]) -> u16
     ensures value { result ≡ crc bytes.now }
 {
     crc_a(bytes)

@@ -1,4 +1,6 @@
 // The air rules: what a box's tag and a phone share.
+#![tactic(auto)]
+
 pub mod answer;
 pub mod bits;
 pub mod crc;

@@ -1,4 +1,6 @@
 // Answers as lines of text.
+#![tactic(auto)]
+
 ghost use Rattle.std.specs.Prelude.{◌≡◌, IfOk, string_bytes, codes};
 ghost use Rattle.answers.specs.Answer.{line, refusal, refused, made_line, drawn_line, power_line, bytes_of, answered, frame_line, left_line, row_line};
 

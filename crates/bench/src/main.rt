@@ -1,4 +1,6 @@
 // Times READ and power on over both memories, when given an argument.
+#![tactic(auto)]
+
 use anyhow::anyhow;
 use memory::Memory;
 use memory::latest::Record;

@@ -1,4 +1,6 @@
 // The calls that lines of input give.
+#![tactic(auto)]
+
 pub mod call;
 mod decimal;
 pub mod expected;

@@ -1,4 +1,6 @@
 // The worked examples of the rules, shown and run.
+#![tactic(auto)]
+
 ghost use Rattle.std.specs.Prelude.{◌≡◌};
 ghost use Rattle.examples.specs.Worked.{Worked, given, locked_picture, sized_picture};
 

@@ -1,4 +1,6 @@
 // Tests of the lines that are read and written.
+#![tactic(auto)]
+
 #[cfg(test)]
 mod malformed;
 #[cfg(test)]

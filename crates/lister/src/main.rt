@@ -1,4 +1,6 @@
 // Lists what lies where in a picture of a box's memory, which comes in on standard input.
+#![tactic(auto)]
+
 use phone::listing::LONGEST;
 use pictures::list_padded;
 use std::io::{Read, Write};

@@ -1,4 +1,6 @@
 // What a box's memory means, and two memories that keep this meaning.
+#![tactic(auto)]
+
 ghost use Rattle.std.specs.Prelude.{◌≡◌, length};
 ghost use Rattle.memory.specs.Memory.{Contents, reading, writing, written};
 

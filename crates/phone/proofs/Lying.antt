@@ -2,7 +2,7 @@
 use Rattle.std.proofs.Common.{◌≡◌, ℕ, zero, suc, ◌+◌, ◌<◌, Bool, true, false, cond, not, ◌&&◌, eqb, leb, ◌⊎◌, List, [], ◌∷◌, ◌++◌, length, get_or, take, drop, is_ok, Ok, Err, Result, sym, refl, ap, ◌∙◌, subst, inl, inr, ⊎_elim, append_assoc, arith}
 use Rattle.std.proofs.lemmas.Bool.{cases_Bool, cond-true, cond-false, ne_eqb, eq-eqb, eqb-true, eqb-false, leb-false, false≢true, and_parts}
 use Rattle.std.proofs.lemmas.List.{take-append-drop, length-take-le, get_or-take}
-use Rattle.std.specs.List.{flat_map, AllByRecursion as All}
+use Rattle.std.specs.List.{flat_map, AllByRecursion}
 use Rattle.air.specs.declared.fault.Fault.{Fault}
 use Rattle.air.specs.declared.fault.Fault.TheVariants.{Layout}
 use Rattle.phone.specs.declared.layout.Tlv.{Tlv}
@@ -19,7 +19,7 @@ record Rest (pic : List ℕ) (e : ℕ) (l : List ℕ) (w : Findings) : Type 0 wh
   rest : List ℕ
   last : Findings
   tiles : visible pic before l ≡ flat_map (λ m. m) before ++ rest
-  passed : All (Passed pic) before
+  passed : AllByRecursion (Passed pic) before
   ends : Ends pic e rest last
   finds : w ≡ found pic before last
   later : (b : ℕ) → Above b l → Later b before

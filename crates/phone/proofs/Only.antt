@@ -3,7 +3,7 @@ use Rattle.std.proofs.Common.{◌≡◌, ℕ, ◌+◌, ◌<◌, ◌≤◌, Bool,
 use Rattle.std.proofs.lemmas.Bool.{cases_Bool, cond-true, cond-false, le-leb, lt-leb, ne_eqb, eq-eqb, eqb-true, false≢true, or_cases}
 use Rattle.std.proofs.ByRecursion.{All-weaker}
 use Rattle.std.proofs.lemmas.List.{take_at, drop_at}
-use Rattle.std.specs.List.{flat_map, AllByRecursion as All}
+use Rattle.std.specs.List.{flat_map, AllByRecursion}
 use Rattle.air.specs.declared.fault.Fault.{Fault}
 use Rattle.phone.specs.declared.layout.Tlv.{Tlv}
 use Rattle.phone.specs.declared.layout.Message.{Message}
@@ -126,7 +126,7 @@ record Front (pic : List ℕ) (ms : List (List ℕ)) (l m xs : List ℕ) : Type 
 head_same : (x y : ℕ) (xs ys : List ℕ) → x ∷ xs ≡ y ∷ ys → (x ≡ y) × (xs ≡ ys)
 head_same x y xs ys h = (cc, cc)
 
-front : (pic : List ℕ) (ms : List (List ℕ)) (l m xs : List ℕ) → Rising l → visible pic ms l ≡ m ++ xs → ((a : ℕ) → hidden pic ms a ≡ true → All (λ y. y < a) m) → Front pic ms l m xs
+front : (pic : List ℕ) (ms : List (List ℕ)) (l m xs : List ℕ) → Rising l → visible pic ms l ≡ m ++ xs → ((a : ℕ) → hidden pic ms a ≡ true → AllByRecursion (λ y. y < a) m) → Front pic ms l m xs
 unfolding visible
 front pic ms l [] xs u v h = record { more = l; split = refl; then = v }
 front pic ms [] (y ∷ m) xs u v h = clash (cc)
@@ -145,7 +145,7 @@ front pic ms (x ∷ l) (y ∷ m) xs u v h =
     record { more = r.more; split = s; then = r.then })
     (cases_Bool (hidden pic ms x))
 
-past : (pic x : List ℕ) (ms : List (List ℕ)) (r : List ℕ) → Passed pic x → All (Passed pic) ms → Rising x → All (λ y. Above y (flat_map (λ y. y) ms ++ r)) x → (a : ℕ) → hidden pic (x ∷ ms) a ≡ true → All (λ y. y < a) x
+past : (pic x : List ℕ) (ms : List (List ℕ)) (r : List ℕ) → Passed pic x → AllByRecursion (Passed pic) ms → Rising x → AllByRecursion (λ y. Above y (flat_map (λ y. y) ms ++ r)) x → (a : ℕ) → hidden pic (x ∷ ms) a ≡ true → AllByRecursion (λ y. y < a) x
 unfolding hidden
 past pic x ms r px p ux cr a h =
     ⊎_elim
@@ -156,7 +156,7 @@ past pic x ms r px p ux cr a h =
     (λ t. hidden_all_past pic ms a x r p cr t)
     (or_cases _ _ h)
 
-finds : (pic : List ℕ) (e : ℕ) (ms : List (List ℕ)) (l rest : List ℕ) (w : Findings) → Rising l → visible pic ms l ≡ flat_map (λ x. x) ms ++ rest → All (Passed pic) ms → Ends pic e rest w → walk_over pic e l ≡ found pic ms w
+finds : (pic : List ℕ) (e : ℕ) (ms : List (List ℕ)) (l rest : List ℕ) (w : Findings) → Rising l → visible pic ms l ≡ flat_map (λ x. x) ms ++ rest → AllByRecursion (Passed pic) ms → Ends pic e rest w → walk_over pic e l ≡ found pic ms w
 finds pic e [] l rest w u v p d = ap (walk_over pic e) (sym (visible_nil pic l) ∙ v) ∙ end_first pic e rest w d
 finds pic e (x ∷ ms) l rest w u v p d =
     let X : List ℕ = flat_map (λ y. y) ms ++ rest in

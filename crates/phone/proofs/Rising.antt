@@ -2,14 +2,14 @@
 use Rattle.std.proofs.Common.{◌≡◌, ℕ, zero, suc, ◌+◌, ◌*◌, ◌<◌, ◌≤◌, Bool, true, false, cond, ◌&&◌, ◌||◌, List, [], ◌∷◌, ◌++◌, length, get_or, sym, refl, ap, ◌∙◌, ⊎_elim, arith}
 use Rattle.std.proofs.lemmas.Bool.{cases_Bool, cond-false, lt-ltb, le-ltb, ltb-true, false≢true, and_parts, and_right, or_from, or_cases}
 use Rattle.std.proofs.ByRecursion.{All-get_or}
-use Rattle.std.specs.List.{flat_map, AllByRecursion as All, range_with_len}
+use Rattle.std.specs.List.{flat_map, AllByRecursion, range_with_len}
 use Rattle.phone.specs.declared.area.Area.{Area}
 use Rattle.phone.specs.Areas.{inside, outside, named}
 use Rattle.phone.specs.Layout.{area, byte, control}
 use Rattle.phone.specs.Tiling.{type_of, Passed, hides, hidden, visible}
 
 abbrev pub Above : ℕ → List ℕ → Type 0
-Above b l = All (λ a. b < a) l
+Above b l = AllByRecursion (λ a. b < a) l
 
 abbrev pub Rising : List ℕ → Type 0
 Rising [] = Unit {0}
@@ -32,7 +32,7 @@ rising_right [] ys h = h
 rising_right (x ∷ xs) ys h = rising_right xs ys h.1
 
 -- each address of the front lies below all behind
-pub crossing : (xs ys : List ℕ) → Rising (xs ++ ys) → All (λ a. Above a ys) xs
+pub crossing : (xs ys : List ℕ) → Rising (xs ++ ys) → AllByRecursion (λ a. Above a ys) xs
 crossing [] ys h = tt
 crossing (x ∷ xs) ys h = (above_right x xs ys h.0, crossing xs ys h.1)
 
@@ -50,11 +50,11 @@ rising_area pic = counting_rising (8 * get_or pic 14 0) 16
 
 -- what comes after a TLV, without what it hides
 
-all_outside : (P : ℕ → Type 0) (r : Area) (l : List ℕ) → All P l → All P (outside r l)
+all_outside : (P : ℕ → Type 0) (r : Area) (l : List ℕ) → AllByRecursion P l → AllByRecursion P (outside r l)
 unfolding outside
 all_outside P r [] h = tt
 all_outside P r (x ∷ l) h =
-    elim (inside r x) as (λ b. All P (cond b (outside r l) (x ∷ outside r l))) [ true ↦ all_outside P r l h.1 | false ↦ (h.0, all_outside P r l h.1) ]
+    elim (inside r x) as (λ b. AllByRecursion P (cond b (outside r l) (x ∷ outside r l))) [ true ↦ all_outside P r l h.1 | false ↦ (h.0, all_outside P r l h.1) ]
 
 rising_outside : (r : Area) (l : List ℕ) → Rising l → Rising (outside r l)
 unfolding outside
@@ -70,9 +70,9 @@ area_of pic m = named (type_of pic m) (byte pic m 2) (byte pic m 3) (byte pic m 
 abbrev pub pruned : List ℕ → List ℕ → List ℕ → List ℕ
 pruned pic m l = cond (control (type_of pic m)) (outside (area_of pic m) l) l
 
-pub all_pruned : (P : ℕ → Type 0) (pic m l : List ℕ) → All P l → All P (pruned pic m l)
+pub all_pruned : (P : ℕ → Type 0) (pic m l : List ℕ) → AllByRecursion P l → AllByRecursion P (pruned pic m l)
 all_pruned P pic m l h =
-    elim (control (type_of pic m)) as (λ b. All P (cond b (outside (area_of pic m) l) l)) [ true ↦ all_outside P _ l h | false ↦ h ]
+    elim (control (type_of pic m)) as (λ b. AllByRecursion P (cond b (outside (area_of pic m) l) l)) [ true ↦ all_outside P _ l h | false ↦ h ]
 
 pub rising_pruned : (pic m l : List ℕ) → Rising l → Rising (pruned pic m l)
 rising_pruned pic m l h =
@@ -88,7 +88,7 @@ visible-++ pic ms (x ∷ xs) ys =
     elim (hidden pic ms x) as (λ b. cond b (visible pic ms (xs ++ ys)) (x ∷ visible pic ms (xs ++ ys)) ≡ cond b (visible pic ms xs) (x ∷ visible pic ms xs) ++ visible pic ms ys)
     [ true ↦ h | false ↦ ap (λ z. x ∷ z) h ]
 
-visible_all : (pic : List ℕ) (ms : List (List ℕ)) (xs : List ℕ) → All (λ a. hidden pic ms a ≡ false) xs → visible pic ms xs ≡ xs
+visible_all : (pic : List ℕ) (ms : List (List ℕ)) (xs : List ℕ) → AllByRecursion (λ a. hidden pic ms a ≡ false) xs → visible pic ms xs ≡ xs
 unfolding visible
 visible_all pic ms [] h = refl
 visible_all pic ms (x ∷ xs) h = cond-false _ _ _ h.0 ∙ ap (λ z. x ∷ z) (visible_all pic ms xs h.1)
@@ -98,11 +98,11 @@ unfolding visible hidden
 visible_nil pic [] = refl
 visible_nil pic (x ∷ xs) = ap (λ z. x ∷ z) (visible_nil pic xs)
 
-pub all_visible : (P : ℕ → Type 0) (pic : List ℕ) (ms : List (List ℕ)) (l : List ℕ) → All P l → All P (visible pic ms l)
+pub all_visible : (P : ℕ → Type 0) (pic : List ℕ) (ms : List (List ℕ)) (l : List ℕ) → AllByRecursion P l → AllByRecursion P (visible pic ms l)
 unfolding visible
 all_visible P pic ms [] h = tt
 all_visible P pic ms (x ∷ l) h =
-    elim (hidden pic ms x) as (λ b. All P (cond b (visible pic ms l) (x ∷ visible pic ms l))) [ true ↦ all_visible P pic ms l h.1 | false ↦ (h.0, all_visible P pic ms l h.1) ]
+    elim (hidden pic ms x) as (λ b. AllByRecursion P (cond b (visible pic ms l) (x ∷ visible pic ms l))) [ true ↦ all_visible P pic ms l h.1 | false ↦ (h.0, all_visible P pic ms l h.1) ]
 
 pub rising_visible : (pic : List ℕ) (ms : List (List ℕ)) (l : List ℕ) → Rising l → Rising (visible pic ms l)
 unfolding visible
@@ -112,7 +112,7 @@ rising_visible pic ms (x ∷ l) h =
     [ true ↦ rising_visible pic ms l h.1 | false ↦ (all_visible (λ a. x < a) pic ms l h.0, rising_visible pic ms l h.1) ]
 
 -- a control TLV in front hides as much as it prunes
-prunes : (pic m : List ℕ) (ms : List (List ℕ)) (c : Bool) (r : Area) (l : List ℕ) → All (λ a. hides pic m a ≡ (c && inside r a)) l → visible pic (m ∷ ms) l ≡ visible pic ms (cond c (outside r l) l)
+prunes : (pic m : List ℕ) (ms : List (List ℕ)) (c : Bool) (r : Area) (l : List ℕ) → AllByRecursion (λ a. hides pic m a ≡ (c && inside r a)) l → visible pic (m ∷ ms) l ≡ visible pic ms (cond c (outside r l) l)
 unfolding visible hidden outside
 prunes pic m ms true r [] h = refl
 prunes pic m ms false r [] h = refl
@@ -135,7 +135,7 @@ hides_past pic m a h =
     tail true = refl
     tail false = refl
 
-hides_all_past : (pic m l : List ℕ) → (control (type_of pic m) ≡ true → Above (get_or m 4 0) l) → All (λ a. hides pic m a ≡ (control (type_of pic m) && inside (area_of pic m) a)) l
+hides_all_past : (pic m l : List ℕ) → (control (type_of pic m) ≡ true → Above (get_or m 4 0) l) → AllByRecursion (λ a. hides pic m a ≡ (control (type_of pic m) && inside (area_of pic m) a)) l
 hides_all_past pic m [] h = tt
 hides_all_past pic m (x ∷ l) h = (hides_past pic m x (λ c. (h c).0), hides_all_past pic m l (λ c. (h c).1))
 
@@ -151,7 +151,7 @@ pruning pic m more ms p r =
 
 -- it hides nothing up to its last byte
 
-pub fifth : (m : List ℕ) → Rising m → length m ≡ 5 → All (λ a. a ≤ get_or m 4 0) m
+pub fifth : (m : List ℕ) → Rising m → length m ≡ 5 → AllByRecursion (λ a. a ≤ get_or m 4 0) m
 fifth [] r h = tt
 fifth (a ∷ []) r h = let z : ⊥ = omega arith in absurd z
 fifth (a ∷ b ∷ []) r h = let z : ⊥ = omega arith in absurd z
@@ -170,10 +170,10 @@ unfolding hides
 up_to_last pic m a h = ⊎_elim (λ t. rw t (let k = le-ltb _ _ (h t) in and_right _ _ k)) (λ f. rw f) (cases_Bool (control (type_of pic m)))
 
 abbrev pub Later : ℕ → List (List ℕ) → Type 0
-Later b ms = All (λ m. Above b m) ms
+Later b ms = AllByRecursion (λ m. Above b m) ms
 
 -- none of what comes later hides an address before it
-unhidden : (pic : List ℕ) (ms : List (List ℕ)) (a : ℕ) → All (Passed pic) ms → Later a ms → hidden pic ms a ≡ false
+unhidden : (pic : List ℕ) (ms : List (List ℕ)) (a : ℕ) → AllByRecursion (Passed pic) ms → Later a ms → hidden pic ms a ≡ false
 unfolding hidden
 unhidden pic [] a p l = refl
 unhidden pic (m ∷ ms) a p l =
@@ -181,14 +181,14 @@ unhidden pic (m ∷ ms) a p l =
     (up_to_last pic m a (λ c. let f = five pic m p.0 c in let k = All-get_or (λ x. a < x) m 4 0 (omega arith) l.0 in omega arith))
     (unhidden pic ms a p.1 l.1)
 
-unhidden_all : (pic m : List ℕ) (ms : List (List ℕ)) (more xs : List ℕ) → ((a : ℕ) → Above a more → Later a ms) → All (Passed pic) ms → All (λ a. Above a more) xs → (control (type_of pic m) ≡ true → All (λ a. a ≤ get_or m 4 0) xs) → All (λ a. hidden pic (m ∷ ms) a ≡ false) xs
+unhidden_all : (pic m : List ℕ) (ms : List (List ℕ)) (more xs : List ℕ) → ((a : ℕ) → Above a more → Later a ms) → AllByRecursion (Passed pic) ms → AllByRecursion (λ a. Above a more) xs → (control (type_of pic m) ≡ true → AllByRecursion (λ a. a ≤ get_or m 4 0) xs) → AllByRecursion (λ a. hidden pic (m ∷ ms) a ≡ false) xs
 unfolding hidden
 unhidden_all pic m ms more [] l p h k = tt
 unhidden_all pic m ms more (x ∷ xs) l p h k =
     (or_from _ _ (up_to_last pic m x (λ c. (k c).0)) (unhidden pic ms x p (l x h.0)), unhidden_all pic m ms more xs l p h.1 (λ c. (k c).1))
 
 -- a TLV in front is visible as a whole
-pub front_visible : (pic m more : List ℕ) (ms : List (List ℕ)) → Passed pic m → Rising (m ++ more) → ((a : ℕ) → Above a more → Later a ms) → All (Passed pic) ms → visible pic (m ∷ ms) m ≡ m
+pub front_visible : (pic m more : List ℕ) (ms : List (List ℕ)) → Passed pic m → Rising (m ++ more) → ((a : ℕ) → Above a more → Later a ms) → AllByRecursion (Passed pic) ms → visible pic (m ∷ ms) m ≡ m
 front_visible pic m more ms p r l q =
     visible_all pic (m ∷ ms) m (unhidden_all pic m ms more m l q (crossing m more r) (λ c. fifth m (rising_left m more r) (five pic m p c)))
 
@@ -200,7 +200,7 @@ hides_control pic m a h =
     (p.0, ltb-true (get_or m 4 0) a q.1)
 
 -- what later TLVs hide lies past all that comes before them
-hidden_past : (pic : List ℕ) (ms : List (List ℕ)) (y a : ℕ) → All (Passed pic) ms → Above y (flat_map (λ m. m) ms) → hidden pic ms a ≡ true → y < a
+hidden_past : (pic : List ℕ) (ms : List (List ℕ)) (y a : ℕ) → AllByRecursion (Passed pic) ms → Above y (flat_map (λ m. m) ms) → hidden pic ms a ≡ true → y < a
 unfolding hidden
 hidden_past pic [] y a p u h = absurd (false≢true h)
 hidden_past pic (m ∷ ms) y a p u h =
@@ -212,6 +212,6 @@ hidden_past pic (m ∷ ms) y a p u h =
     (λ k. hidden_past pic ms y a p.1 (above_right y m (flat_map (λ x. x) ms) u) k)
     (or_cases _ _ h)
 
-pub hidden_all_past : (pic : List ℕ) (ms : List (List ℕ)) (a : ℕ) (xs rest : List ℕ) → All (Passed pic) ms → All (λ y. Above y (flat_map (λ m. m) ms ++ rest)) xs → hidden pic ms a ≡ true → All (λ y. y < a) xs
+pub hidden_all_past : (pic : List ℕ) (ms : List (List ℕ)) (a : ℕ) (xs rest : List ℕ) → AllByRecursion (Passed pic) ms → AllByRecursion (λ y. Above y (flat_map (λ m. m) ms ++ rest)) xs → hidden pic ms a ≡ true → AllByRecursion (λ y. y < a) xs
 hidden_all_past pic ms a [] rest p u h = tt
 hidden_all_past pic ms a (x ∷ xs) rest p u h = (hidden_past pic ms x a p (above_left x (flat_map (λ m. m) ms) rest u.0) h, hidden_all_past pic ms a xs rest p u.1 h)

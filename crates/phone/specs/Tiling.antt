@@ -1,7 +1,7 @@
 -- How TLVs lie in a picture, said without a walk: a TLV is the list of the addresses of its bytes, and whole TLVs, one after the other, tile
 -- the addresses that no control TLV among them hides.
 use Rattle.std.specs.Prelude.{◌≡◌, ℕ, ◌+◌, ◌<◌, Bool, true, false, cond, ◌&&◌, ◌||◌, ◌⊎◌, List, [], ◌∷◌, ◌++◌, map, length, Ok, Result, ◌==◌, ◌≢◌, nat_lt, slice_index, slice_index_or}
-use Rattle.std.specs.List.{flat_map, AllByRecursion as All}
+use Rattle.std.specs.List.{flat_map, AllByRecursion}
 use Rattle.air.specs.declared.fault.Fault.{Fault}
 use Rattle.air.specs.declared.fault.Fault.TheVariants.{Call, Layout}
 use Rattle.phone.specs.declared.layout.Tlv.{Tlv}
@@ -99,7 +99,7 @@ pub record Lies (pic : List ℕ) (w : Findings) : Type 0 where
   pub rest : List ℕ
   pub last : Findings
   pub tiles : visible pic before (area pic) ≡ flat_map (λ m. m) before ++ rest
-  pub passed : All (Passed pic) before
+  pub passed : AllByRecursion (Passed pic) before
   pub ends : Ends pic (area_end pic) rest last
   pub finds : w ≡ found pic before last
 

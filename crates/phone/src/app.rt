@@ -14,8 +14,8 @@ pub struct Report {
     pub length: u16,
 }
 
-#[unsafe(no_mangle)]
-pub extern "C" fn youthgoat_layout_walk(picture: &[u8]) -> Report
+// What phone_c exports.
+pub fn youthgoat_layout_walk(picture: &[u8]) -> Report
     ensures value { result ≡ reported (walked picture.now).answer }
     ensures laid { ReportedOff picture.now result }
 {

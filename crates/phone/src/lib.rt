@@ -1,4 +1,6 @@
 // The phone end: what lies in a picture of a box's memory.
+#![tactic(auto)]
+
 pub mod app;
 mod area;
 mod cursor;

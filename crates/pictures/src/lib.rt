@@ -1,4 +1,6 @@
 // The listing of a picture that is given by its first bytes.
+#![tactic(auto)]
+
 ghost use Rattle.std.specs.Prelude.{◌≡◌, ◌≤◌, IfOk};
 ghost use Rattle.pictures.specs.Padded.{padded, put, put_into};
 

@@ -1,6 +1,9 @@
 // Plays lines of input on boxes: each call is answered before the next line is read.
+#![tactic(auto)]
+
 use air::answer::ROOM;
 use answers::{frame_line, left_line, made_line, off_line, power_line, row_line};
+use anyhow::anyhow;
 use calls::call::{Kind, Line};
 use memory::Memory;
 use memory::latest::Record;
@@ -8,6 +11,7 @@ use memory::log::LogMemory;
 use memory::picture::PictureMemory;
 use std::alloc::{AllocError, Global};
 use std::io::{BufRead, BufReader, Stdin, Stdout, Write};
+use std::process::ExitCode;
 use tag::Tag;
 use tag::code::{HYPHENS, tap_code};
 use tag::making::{Identity, make};
@@ -43,10 +47,7 @@ impl Input {
     // The message about the line that was read last.
     fn expected(&self, what: &str) -> anyhow::Error {
         let number = self.number;
-        match format!(in self.heap; "line {number}: expected {what}") {
-            Ok(message) => message.into(),
-            Err(error) => error.into(),
-        }
+        anyhow!("line {number}: expected {what}")
     }
 
     // The call of the next line, or none at the input's end.
@@ -234,10 +235,12 @@ fn play_input(rt: &HostRuntime) -> anyhow::Result<()> {
 }
 
 // Plays standard input to its end, and tells on standard error what ended it before.
-pub fn run(rt: &HostRuntime) -> anyhow::Result<()> {
-    let played = play_input(rt);
-    if let Err(error) = &played {
-        eprintln!(rt; "{error}")?;
+pub fn run(rt: &HostRuntime) -> anyhow::Result<ExitCode> {
+    match play_input(rt) {
+        Ok(()) => Ok(ExitCode::SUCCESS),
+        Err(error) => {
+            eprintln!(rt; "{error}")?;
+            Ok(ExitCode::FAILURE)
+        }
     }
-    played
 }

@@ -28,18 +28,18 @@ impl<M: Memory> Tag<M> {
     // Makes the step, and puts its answer into a buffer of at least 18 bytes.
     fn answer(&mut self, frame: Frame, buffer: &mut [u8]) -> Result<usize, Fault>
         requires { 18 ≤ length buffer.old }
-        ensures value { result ≡ Ok (bits_in (step_of (box_of holds self.old) frame).answer) }
-        ensures after { box_of holds self.new ≡ (step_of (box_of holds self.old) frame).after }
-        ensures buffer { buffer.new ≡ laid buffer.old (bytes_in (step_of (box_of holds self.old) frame).answer) }
+        ensures value { result ≡ Ok (bits_in (step_of (box_of M.holds self.old) frame).answer) }
+        ensures after { box_of M.holds self.new ≡ (step_of (box_of M.holds self.old) frame).after }
+        ensures buffer { buffer.new ≡ laid buffer.old (bytes_in (step_of (box_of M.holds self.old) frame).answer) }
     {
         self.step(frame)?.put(buffer)
     }
 
     // A frame and the count of bits used in its last byte: the number of the answer's bits, which go first into the buffer.
     pub fn frame(&mut self, frame: &[u8], count: u8, buffer: &mut [u8]) -> Result<usize, Fault>
-        ensures value { result ≡ frame_answer (box_of holds self.old) frame.now count buffer.old }
-        ensures after { box_of holds self.new ≡ frame_box (box_of holds self.old) frame.now count buffer.old }
-        ensures buffer { buffer.new ≡ frame_buffer (box_of holds self.old) frame.now count buffer.old }
+        ensures value { result ≡ frame_answer (box_of M.holds self.old) frame.now count buffer.old }
+        ensures after { box_of M.holds self.new ≡ frame_box (box_of M.holds self.old) frame.now count buffer.old }
+        ensures buffer { buffer.new ≡ frame_buffer (box_of M.holds self.old) frame.now count buffer.old }
         ensures guards { Guards }
     {
         guards_hold();

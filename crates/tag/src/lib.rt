@@ -1,4 +1,6 @@
 // The tag end of a box: made, powered, read, written, locked and killed, over any memory.
+#![tactic(auto)]
+
 ghost use Rattle.std.specs.Prelude.{◌≡◌, ◌<◌};
 ghost use Rattle.std.specs.Str.{bytes_eq};
 ghost use Rattle.memory.specs.Memory.{reading, takes, written};
@@ -40,22 +42,22 @@ impl<M: Memory> Tag<M> {
     // Writes a block: whether the memory took it.
     fn store(&mut self, block: u8, bytes: [u8; 4]) -> bool
         requires { block < 64 }
-        ensures value { result ≡ takes (box_of holds self.old).mem }
-        ensures after { box_of holds self.new ≡ holding (box_of holds self.old) (written (box_of holds self.old).mem block bytes) }
+        ensures value { result ≡ takes (box_of M.holds self.old).mem }
+        ensures after { box_of M.holds self.new ≡ holding (box_of M.holds self.old) (written (box_of M.holds self.old).mem block bytes) }
     {
         self.memory.write(block, bytes).is_ok()
     }
 
     // A stored block, as the board that owns the memory sees it.
     pub fn stored(&self, block: u8) -> Result<[u8; 4], Fault>
-        ensures value { result ≡ reading (box_of holds self.now).mem block }
+        ensures value { result ≡ reading (box_of M.holds self.now).mem block }
     {
         self.memory.read(block)
     }
 
     // The writes left.
     pub fn left(&self) -> u32
-        ensures value { result ≡ (box_of holds self.now).mem.left }
+        ensures value { result ≡ (box_of M.holds self.now).mem.left }
     {
         self.memory.left()
     }

@@ -71,9 +71,9 @@ fn made_block(identity: &Identity, block: u8) -> [u8; 4]
 }
 
 fn write_all<M: Memory>(memory: &mut M, identity: &Identity) -> Result<(), Fault>
-    requires { 64 ≤ (holds memory.old).left }
+    requires { 64 ≤ (M.holds memory.old).left }
     ensures value { result ≡ Ok tt }
-    ensures after { holds memory.new ≡ all_made (holds memory.old) identity.now }
+    ensures after { M.holds memory.new ≡ all_made (M.holds memory.old) identity.now }
 {
     for block in 0..BLOCKS {
         memory.write(block, made_block(identity, block))?;
@@ -83,8 +83,8 @@ fn write_all<M: Memory>(memory: &mut M, identity: &Identity) -> Result<(), Fault
 
 // Writes blocks 0 to 63 of a tag into a lent memory.
 pub fn make<M: Memory>(memory: &mut M, identity: &Identity) -> Result<(), Fault>
-    ensures value { result ≡ making (holds memory.old) }
-    ensures after { holds memory.new ≡ made (holds memory.old) identity.now }
+    ensures value { result ≡ making (M.holds memory.old) }
+    ensures after { M.holds memory.new ≡ made (M.holds memory.old) identity.now }
 {
     if memory.left() < u32::from(BLOCKS) {
         return Err(FEW_WRITES);
@@ -95,7 +95,7 @@ pub fn make<M: Memory>(memory: &mut M, identity: &Identity) -> Result<(), Fault>
 impl<M: Memory> Tag<M> {
     // Takes a memory over: the tag is OFF, with the UID from blocks 0 and 1.
     pub fn open(memory: M) -> Tag<M>
-        ensures value { box_of holds result ≡ opened (holds memory) }
+        ensures value { box_of M.holds result ≡ opened (M.holds memory) }
     {
         let Ok(first) = memory.read(0) else {
             unreachable()

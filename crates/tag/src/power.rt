@@ -23,15 +23,15 @@ const POWERED: Fault = Fault::Call {
 impl<M: Memory> Tag<M> {
     // Power off leads to OFF from every state.
     pub fn power_off(&mut self)
-        ensures after { box_of holds self.new ≡ in_state (box_of holds self.old) Off }
+        ensures after { box_of M.holds self.new ≡ in_state (box_of M.holds self.old) Off }
     {
         self.state = State::Off;
     }
 
     // Draws a code if there is one and a write is left: the next number is stored before the code is shown.
     fn draw(&mut self) -> Result<(bool, u16), Fault>
-        ensures value { result ≡ Ok (drawing (box_of holds self.old).mem) }
-        ensures after { box_of holds self.new ≡ drawn_box (box_of holds self.old) }
+        ensures value { result ≡ Ok (drawing (box_of M.holds self.old).mem) }
+        ensures after { box_of M.holds self.new ≡ drawn_box (box_of M.holds self.old) }
     {
         let tap = u32::from_le_bytes(self.memory.read(TAPS)?);
         self.code = HYPHENS;
@@ -47,8 +47,8 @@ impl<M: Memory> Tag<M> {
 
     // Power on from OFF: whether a code was drawn, and its tap number or 0.
     pub fn power_on(&mut self) -> Result<(bool, u16), Fault>
-        ensures value { result ≡ power_answer (box_of holds self.old) }
-        ensures after { box_of holds self.new ≡ powered (box_of holds self.old) }
+        ensures value { result ≡ power_answer (box_of M.holds self.old) }
+        ensures after { box_of M.holds self.new ≡ powered (box_of M.holds self.old) }
     {
         match self.state {
             State::Off => {}

@@ -26,7 +26,7 @@ fn joined(a: [u8; 4], b: [u8; 4], c: [u8; 4], d: [u8; 4]) -> [u8; 16]
 impl<M: Memory> Tag<M> {
     // The window as it stands now: five blocks are read for it.
     fn window(&self) -> Result<Window, Fault>
-        ensures value { MatchResult result (λ w. (meant w ≡ window_of (box_of holds self.now)) × (w.len ≤ 18)) (λ _. ⊥) }
+        ensures value { MatchResult result (λ w. (meant w ≡ window_of (box_of M.holds self.now)) × (w.len ≤ 18)) (λ _. ⊥) }
     {
         let setting = self.memory.read(SETTING)?;
         let custom = [
@@ -41,7 +41,7 @@ impl<M: Memory> Tag<M> {
     // The shown bytes of a block.
     fn shown(&self, window: &Window, block: u8) -> Result<[u8; 4], Fault>
         requires { (block < 64) × (window.now.len ≤ 18) }
-        ensures value { result ≡ Ok (block_shown (meant window.now) block (block_in (box_of holds self.now).mem block)) }
+        ensures value { result ≡ Ok (block_shown (meant window.now) block (block_in (box_of M.holds self.now).mem block)) }
     {
         Ok(shown_block(window, block, self.memory.read(block)?))
     }
@@ -49,7 +49,7 @@ impl<M: Memory> Tag<M> {
     // The bytes that READ shows from a block on: four blocks, going on from the last to the first.
     pub(crate) fn shown_from(&self, block: u8) -> Result<[u8; 16], Fault>
         requires { block < 64 }
-        ensures value { result ≡ Ok (shown_by (box_of holds self.now) block) }
+        ensures value { result ≡ Ok (shown_by (box_of M.holds self.now) block) }
     {
         let window = self.window()?;
         let first = self.shown(&window, block)?;

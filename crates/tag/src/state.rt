@@ -26,7 +26,7 @@ pub enum State {
 impl<M: Memory> Tag<M> {
     // READY1, READY2 and ACTIVE go home: to HALT if the tag was last woken from there, else to IDLE.
     fn go_home(&mut self)
-        ensures after { box_of holds self.new ≡ homed (box_of holds self.old) }
+        ensures after { box_of M.holds self.new ≡ homed (box_of M.holds self.old) }
     {
         self.state = if self.from_halt {
             State::Halt
@@ -38,7 +38,7 @@ impl<M: Memory> Tag<M> {
     // A frame that is not listed gets silence and sends the tag home.
     fn lost(&mut self) -> Answer
         ensures value { result ≡ Silence }
-        ensures after { box_of holds self.new ≡ homed (box_of holds self.old) }
+        ensures after { box_of M.holds self.new ≡ homed (box_of M.holds self.old) }
     {
         self.go_home();
         Answer::Silence
@@ -47,7 +47,7 @@ impl<M: Memory> Tag<M> {
     // Each NACK sends the tag home.
     pub(crate) fn nack(&mut self, refusal: Refusal) -> Answer
         ensures value { result ≡ Nack refusal }
-        ensures after { box_of holds self.new ≡ homed (box_of holds self.old) }
+        ensures after { box_of M.holds self.new ≡ homed (box_of M.holds self.old) }
     {
         self.go_home();
         Answer::Nack { refusal }
@@ -55,7 +55,7 @@ impl<M: Memory> Tag<M> {
 
     fn wake(&mut self, from_halt: bool) -> Answer
         ensures value { result ≡ Atqa }
-        ensures after { box_of holds self.new ≡ woken (box_of holds self.old) from_halt }
+        ensures after { box_of M.holds self.new ≡ woken (box_of M.holds self.old) from_halt }
     {
         self.from_halt = from_halt;
         self.state = State::Ready1;
@@ -64,8 +64,8 @@ impl<M: Memory> Tag<M> {
 
     // Tells the rest of a level's bits, if those given begin them.
     fn anticollide(&mut self, level: Level, given: Bits) -> Answer
-        ensures value { result ≡ (met (box_of holds self.old) level given).answer }
-        ensures after { box_of holds self.new ≡ (met (box_of holds self.old) level given).after }
+        ensures value { result ≡ (met (box_of M.holds self.old) level given).answer }
+        ensures after { box_of M.holds self.new ≡ (met (box_of M.holds self.old) level given).after }
     {
         match given.rest_of(level_bytes(level, self.uid)) {
             Some(bits) => Answer::Rest { bits },
@@ -75,8 +75,8 @@ impl<M: Memory> Tag<M> {
 
     // Goes on to the next state, if the tag's own bytes are selected.
     fn select(&mut self, level: Level, bytes: [u8; 5], next: State) -> Answer
-        ensures value { result ≡ (chosen (box_of holds self.old) level bytes next).answer }
-        ensures after { box_of holds self.new ≡ (chosen (box_of holds self.old) level bytes next).after }
+        ensures value { result ≡ (chosen (box_of M.holds self.old) level bytes next).answer }
+        ensures after { box_of M.holds self.new ≡ (chosen (box_of M.holds self.old) level bytes next).after }
     {
         if !same(&bytes, &level_bytes(level, self.uid)) {
             return self.lost();
@@ -86,8 +86,8 @@ impl<M: Memory> Tag<M> {
     }
 
     fn read(&mut self, block: u8) -> Result<Answer, Fault>
-        ensures value { result ≡ Ok (read_step (box_of holds self.old) block).answer }
-        ensures after { box_of holds self.new ≡ (read_step (box_of holds self.old) block).after }
+        ensures value { result ≡ Ok (read_step (box_of M.holds self.old) block).answer }
+        ensures after { box_of M.holds self.new ≡ (read_step (box_of M.holds self.old) block).after }
     {
         if block >= BLOCKS {
             return Ok(self.nack(Refusal::Block));
@@ -98,8 +98,8 @@ impl<M: Memory> Tag<M> {
     }
 
     pub(crate) fn step(&mut self, frame: Frame) -> Result<Answer, Fault>
-        ensures value { result ≡ Ok (step_of (box_of holds self.old) frame).answer }
-        ensures after { box_of holds self.new ≡ (step_of (box_of holds self.old) frame).after }
+        ensures value { result ≡ Ok (step_of (box_of M.holds self.old) frame).answer }
+        ensures after { box_of M.holds self.new ≡ (step_of (box_of M.holds self.old) frame).after }
     {
         match (self.state, frame) {
             (State::Off | State::Killed, _) => Ok(Answer::Silence),

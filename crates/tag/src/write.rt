@@ -35,7 +35,7 @@ fn is_closed(block: u8) -> bool
 impl<M: Memory> Tag<M> {
     fn is_locked(&self, block: u8) -> Result<bool, Fault>
         requires { block < 64 }
-        ensures value { result ≡ Ok (locked (box_of holds self.now).mem.blocks block) }
+        ensures value { result ≡ Ok (locked (box_of M.holds self.now).mem.blocks block) }
     {
         let fixed = self.memory.read(STATIC_LOCKS)?;
         let dynamic = self.memory.read(DYNAMIC_LOCKS)?;
@@ -44,7 +44,7 @@ impl<M: Memory> Tag<M> {
 
     // The keyhole: only the stored password, once it is locked, turns it.
     fn kill_by(&self, bytes: [u8; 4]) -> Result<Option<Change>, Fault>
-        ensures value { result ≡ Ok (kill_by (box_of holds self.now).mem.blocks bytes) }
+        ensures value { result ≡ Ok (kill_by (box_of M.holds self.now).mem.blocks bytes) }
     {
         if !self.is_locked(PASSWORD)? || !same(&bytes, &self.memory.read(PASSWORD)?) {
             return Ok(None);
@@ -59,7 +59,7 @@ impl<M: Memory> Tag<M> {
     // What a WRITE of any other block is to store.
     fn merge_into(&self, block: u8, bytes: [u8; 4]) -> Result<Change, Fault>
         requires { block < 64 }
-        ensures value { result ≡ Ok (merge_into (box_of holds self.now).mem.blocks block bytes) }
+        ensures value { result ≡ Ok (merge_into (box_of M.holds self.now).mem.blocks block bytes) }
     {
         let old = self.memory.read(block)?;
         Ok(Change {
@@ -70,7 +70,7 @@ impl<M: Memory> Tag<M> {
 
     // What a WRITE is to store, if it may.
     fn change_by(&self, block: u8, bytes: [u8; 4]) -> Result<Option<Change>, Fault>
-        ensures value { result ≡ Ok (change_by (box_of holds self.now).mem.blocks block bytes) }
+        ensures value { result ≡ Ok (change_by (box_of M.holds self.now).mem.blocks block bytes) }
     {
         if is_closed(block) || self.is_locked(block)? {
             return Ok(None);
@@ -82,8 +82,8 @@ impl<M: Memory> Tag<M> {
     }
 
     pub(crate) fn write(&mut self, block: u8, bytes: [u8; 4]) -> Result<Answer, Fault>
-        ensures value { result ≡ Ok (write_answer (box_of holds self.old) block bytes) }
-        ensures after { box_of holds self.new ≡ write_box (box_of holds self.old) block bytes }
+        ensures value { result ≡ Ok (write_answer (box_of M.holds self.old) block bytes) }
+        ensures after { box_of M.holds self.new ≡ write_box (box_of M.holds self.old) block bytes }
     {
         let Some(change) = self.change_by(block, bytes)? else {
             return Ok(self.nack(Refusal::Block));

@@ -1,4 +1,6 @@
 // Runs vectors that other programs computed, one a line on standard input: `crc HEX` and `layout SIZE HEX`.
+#![tactic(auto)]
+
 ghost use Rattle.std.specs.Prelude.{◌≡◌, ◌<◌, ◌++◌, IfOk, vec_items};
 ghost use Rattle.std.specs.Option.{option_map};
 ghost use Rattle.vectors.specs.Hex.{digit_value, with_high, written, digit_of, sent_line};

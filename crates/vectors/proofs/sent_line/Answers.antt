@@ -5,9 +5,9 @@ use Rattle.vectors.proofs.sent_line.Goals as goal
 
 pub returns : goal.returns
 returns c =
-    let low : ℕ = get_or c.to-le-bytes.result 0 0 in
-    let high : ℕ = get_or c.to-le-bytes.result 1 0 in
-    let t = c.to-le-bytes.ensures in
+    let low : ℕ = get_or c.to_le_bytes.result 0 0 in
+    let high : ℕ = get_or c.to_le_bytes.result 1 0 in
+    let t = c.to_le_bytes.ensures in
     let l : low ≡ c.args.crc % 256 = ap (λ z. get_or z 0 0) t in
     let m : c.args.crc / 256 % 256 ≡ c.args.crc / 256 = omega arith in
     let h : high ≡ c.args.crc / 256 = ap (λ z. get_or z 1 0) t ∙ m in

@@ -7,8 +7,8 @@ pub returns : goal.returns
 returns c =
     let bs = c.args.bytes.now in
     let e = filled_up bs c.requires in
-    let f = c.from-le-bytes.ensures in
-    let g = c.copy-from-slice.ensures.after in
-    let r : c.from-le-bytes.result ≡ worth 256 bs = cc in
-    let l = number_below bs (λ i. (c.type-inv.bytes i).fits) in
-    record { bits = bits_number bs (λ i. (c.type-inv.bytes i).fits) ∙ ap (cut 2 (8 * length bs)) (sym r); below = omega (arith, r, l) }
+    let f = c.from_le_bytes.ensures in
+    let g = c.copy_from_slice.ensures.after in
+    let r : c.from_le_bytes.result ≡ worth 256 bs = cc in
+    let l = number_below bs (λ i. (c.type_inv.bytes i).fits) in
+    record { bits = bits_number bs (λ i. (c.type_inv.bytes i).fits) ∙ ap (cut 2 (8 * length bs)) (sym r); below = omega (arith, r, l) }

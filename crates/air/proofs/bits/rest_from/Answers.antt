@@ -15,6 +15,6 @@ returns c =
     let five : length level ≡ 5 = search rules in
     let all : bits_of level ≡ cut 2 40 x = c.number.ensures.bits ∙ ap (λ m. cut 2 (8 * m) x) five in
     let lt : x < 2 ^ 40 = let b = c.number.ensures.below in let e = ap (λ m. 2 ^ (8 * m)) five in omega (arith, b, e) in
-    let bytes = ap (λ l. get_or l 0 0 ∷ get_or l 1 0 ∷ get_or l 2 0 ∷ get_or l 3 0 ∷ get_or l 4 0 ∷ []) c.to-le-bytes.ensures ∙ five_bytes (x / 2 ^ n) in
+    let bytes = ap (λ l. get_or l 0 0 ∷ get_or l 1 0 ∷ get_or l 2 0 ∷ get_or l 3 0 ∷ get_or l 4 0 ∷ []) c.to_le_bytes.ensures ∙ five_bytes (x / 2 ^ n) in
     let laid = ap (of_bytes n) bytes in
     record { value = laid ∙ sym (the_rest level x all n lt (omega arith)) }

@@ -16,7 +16,7 @@ returns-then-bytes-count c =
     let m = and_mask nvb 4 in
     let n : 8 * (nvb / 16 - 2) + bit_and nvb 15 ≡ 8 * length bytes + c.args.count - 8 = omega arith in
     let yes : counted nvb (length bytes) c.args.count ≡ true = grind (arith, nat_tests) in
-    record { value = ap Some (c.first-bits.ensures.value ∙ ap (λ k. gathered (take k (bits_of bytes))) n) ∙ sym (cond-true _ _ _ yes) }
+    record { value = ap Some (c.first_bits.ensures.value ∙ ap (λ k. gathered (take k (bits_of bytes))) n) ∙ sym (cond-true _ _ _ yes) }
 
 pub returns-else-bytes-count : goal.returns-else-bytes-count
 returns-else-bytes-count c = let m = and_mask c.args.nvb 4 in record { value = grind (arith, nat_tests) }

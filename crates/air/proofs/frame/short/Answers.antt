@@ -9,5 +9,5 @@ returns-in-38 c = let m = and_mask c.args.byte 7 in record { value = grind (arit
 pub returns-in-82 : goal.returns-in-82
 returns-in-82 c = let m = and_mask c.args.byte 7 in record { value = grind (arith, nat_tests) }
 
-pub returns-in-default : goal.returns-in-default
-returns-in-default c = let m = and_mask c.args.byte 7 in record { value = grind (arith, nat_tests) }
+pub returns-in_default : goal.returns-in_default
+returns-in_default c = let m = and_mask c.args.byte 7 in record { value = grind (arith, nat_tests) }

@@ -9,5 +9,5 @@ returns c =
     let t = take_min c.args.used places in
     let m = c.min.ensures in
     let l = c.latest.ensures.value in
-    let v = c.unwrap-or.ensures in
+    let v = c.unwrap_or.ensures in
     record { value = cc }

@@ -8,8 +8,8 @@ use Rattle.phone.proofs.Lines.{text-failed}
 use Rattle.phone.proofs.Only.{laid_out}
 use Rattle.phone.proofs.listing.put_listing.Goals as goal
 
-pub put-walk-requires : goal.put-walk-requires
-put-walk-requires c =
+pub put_walk-requires : goal.put_walk-requires
+put_walk-requires c =
     let o = opening c.args.picture.now c.in-Ok.cursor c.in-Ok.ensures.value in
     let f = o.few in
     (o.is_whole, (o.is_picture, omega arith))
@@ -18,9 +18,9 @@ pub returns-in-Ok : goal.returns-in-Ok
 returns-in-Ok c =
     let o = opening c.args.picture.now c.in-Ok.cursor c.in-Ok.ensures.value in
     record {
-      value = c.put-walk.ensures.value ∙ ap (λ w. length (text w)) o.finds;
-      bound = let b = c.put-walk.ensures.bound in let f = o.few in omega arith;
-      after = c.put-walk.ensures.after ∙ ap (λ w. over c.args.out.now 0 (text w)) o.finds;
+      value = c.put_walk.ensures.value ∙ ap (λ w. length (text w)) o.finds;
+      bound = let b = c.put_walk.ensures.bound in let f = o.few in omega arith;
+      after = c.put_walk.ensures.after ∙ ap (λ w. over c.args.out.now 0 (text w)) o.finds;
       laid = laid_out c.args.picture.now;
     }
 
@@ -37,6 +37,6 @@ returns-in-Err c =
     record {
       value = sym (ap length t ∙ l);
       bound = omega arith;
-      after = c.put-line.ensures.after ∙ ap (over c.args.out.now 0) (sym t);
+      after = c.put_line.ensures.after ∙ ap (over c.args.out.now 0) (sym t);
       laid = laid_out c.args.picture.now;
     }

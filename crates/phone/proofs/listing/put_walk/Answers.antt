@@ -22,12 +22,12 @@ returns-in-Err c =
     let l = length-line c.from-in-Err.result c.address.result 0 (omega arith) (omega arith) (omega arith) in
     let h = walk_fails c.args.picture.now k.end (left k) f (sym c.in-Err.ensures.value) in
     let t : text (walk_over c.args.picture.now k.end (left k)) ≡ line c.from-in-Err.result c.address.result 0 = ap text h ∙ text-failed f ∙ cc in
-    let r = finish c.loop-tlv.out c.put-line-in-Err.new.out c.loop-tlv.at (c.loop-tlv.at + 13) _ _ _ _ t c.put-line-in-Err.ensures.after (omega arith) c.loop-tlv.invariant.1 in
+    let r = finish c.loop-tlv.out c.put_line-in-Err.new.out c.loop-tlv.at (c.loop-tlv.at + 13) _ _ _ _ t c.put_line-in-Err.ensures.after (omega arith) c.loop-tlv.invariant.1 in
     let d = c.loop-tlv.invariant.2 in
     record { value = r.counted; bound = omega arith; after = r.puts }
 
-pub returns-then-tlv-eq-NDEF-MESSAGE : goal.returns-then-tlv-eq-NDEF-MESSAGE
-returns-then-tlv-eq-NDEF-MESSAGE c =
+pub returns-then-tlv-eq-NDEF_MESSAGE : goal.returns-then-tlv-eq-NDEF_MESSAGE
+returns-then-tlv-eq-NDEF_MESSAGE c =
     let pic : List ℕ = c.args.picture.now in
     let k = c.loop-tlv.cursor in
     let t = c.in-Ok.tlv in
@@ -36,25 +36,25 @@ returns-then-tlv-eq-NDEF-MESSAGE c =
     let b = c.in-Ok.ensures.bound in
     let fk = c.from.ensures in
     let fl = c.from-in-Ok.ensures in
-    let fm = c.from-then-tlv-eq-NDEF-MESSAGE.ensures in
+    let fm = c.from-then-tlv-eq-NDEF_MESSAGE.ensures in
     let last : List ℕ = line 0 t.place t.length in
-    let p : c.put-line.new.out ≡ over out i (tlv_line t) = let e = c.put-line.ensures.after in cc in
-    let q : c.put-line-then-tlv-eq-NDEF-MESSAGE.new.out ≡ over c.put-line.new.out (i + 13) last = let e = c.put-line-then-tlv-eq-NDEF-MESSAGE.ensures.after in cc in
+    let p : c.put_line.new.out ≡ over out i (tlv_line t) = let e = c.put_line.ensures.after in cc in
+    let q : c.put_line-then-tlv-eq-NDEF_MESSAGE.new.out ≡ over c.put_line.new.out (i + 13) last = let e = c.put_line-then-tlv-eq-NDEF_MESSAGE.ensures.after in cc in
     let l1 = length-line t.at t.kind t.length (omega arith) (omega arith) (omega arith) in
     let l2 = length-line 0 t.place t.length (omega arith) (omega arith) (omega arith) in
-    let h = walk_meets pic k.end (left k) t (sym c.in-Ok.ensures.value) c.if-tlv-eq-NDEF-MESSAGE.true in
+    let h = walk_meets pic k.end (left k) t (sym c.in-Ok.ensures.value) c.if-tlv-eq-NDEF_MESSAGE.true in
     let x : text (walk_over pic k.end (left k)) ≡ tlv_line t ++ last = ap text h ∙ text-met t _ in
-    let f : c.put-line-then-tlv-eq-NDEF-MESSAGE.new.out ≡ over out i (tlv_line t ++ last) = q ∙ ap (λ z. over z (i + 13) last) p ∙ over-over out i (i + 13) (tlv_line t) last (omega arith) (omega arith) in
+    let f : c.put_line-then-tlv-eq-NDEF_MESSAGE.new.out ≡ over out i (tlv_line t ++ last) = q ∙ ap (λ z. over z (i + 13) last) p ∙ over-over out i (i + 13) (tlv_line t) last (omega arith) (omega arith) in
     let n = length-append (tlv_line t) last in
-    let r = finish out c.put-line-then-tlv-eq-NDEF-MESSAGE.new.out i (i + 13 + 13) _ _ _ _ x f (omega arith) c.loop-tlv.invariant.1 in
+    let r = finish out c.put_line-then-tlv-eq-NDEF_MESSAGE.new.out i (i + 13 + 13) _ _ _ _ x f (omega arith) c.loop-tlv.invariant.1 in
     let s = shorter pic k.end (left k) (sym (ap is_ok c.in-Ok.ensures.value)) in
     let d = c.loop-tlv.invariant.2 in
     record { value = r.counted; bound = omega arith; after = r.puts }
 
-on : (c : goal.Else-tlv-eq-NDEF-MESSAGE) → Moved c.args.picture.now c.loop-tlv.cursor c.next-tlv.new.cursor c.in-Ok.tlv
+on : (c : goal.Else-tlv-eq-NDEF_MESSAGE) → Moved c.args.picture.now c.loop-tlv.cursor c.next_tlv.new.cursor c.in-Ok.tlv
 on c =
     let n = c.in-Ok.ensures in
-    moving c.args.picture.now c.loop-tlv.cursor c.next-tlv.new.cursor c.in-Ok.tlv n.value (n.after refl) n.kept.same_end c.if-tlv-eq-NDEF-MESSAGE.false
+    moving c.args.picture.now c.loop-tlv.cursor c.next_tlv.new.cursor c.in-Ok.tlv n.value (n.after refl) n.kept.same_end c.if-tlv-eq-NDEF_MESSAGE.false
 
 pub loop-tlv-smaller : goal.loop-tlv-smaller
 loop-tlv-smaller c = (on c).fewer
@@ -69,7 +69,7 @@ loop-tlv-preserved c =
     let fl = c.from-in-Ok.ensures in
     let m = on c in
     let fw = m.fewer in
-    let p : c.put-line.new.out ≡ over out i (tlv_line t) = let e = c.put-line.ensures.after in cc in
+    let p : c.put_line.new.out ≡ over out i (tlv_line t) = let e = c.put_line.ensures.after in cc in
     let bd = c.loop-tlv.invariant.2 in
-    let st = line_on out c.put-line.new.out i t _ _ _ _ (omega arith) (omega arith) (omega arith) (omega arith) m.finds p c.loop-tlv.invariant.1 in
+    let st = line_on out c.put_line.new.out i t _ _ _ _ (omega arith) (omega arith) (omega arith) (omega arith) m.finds p c.loop-tlv.invariant.1 in
     (c.in-Ok.ensures.kept.whole, st, omega arith)

@@ -20,11 +20,11 @@ pub returns : goal.returns
 returns g c =
     let x = box_of g.M.Memory.holds c.args.self.now in
     let b = c.args.block in
-    let w = meant c.in-ok-window.window in
-    let e : w ≡ window_of x = c.in-ok-window.ensures.value.0 in
-    let f0 = is_shown x w b c.in-ok-first.first e c.in-ok-first.ensures.value in
-    let f1 = is_shown x w (bit_and (b + 1) 63) c.in-ok-second.second e c.in-ok-second.ensures.value in
-    let f2 = is_shown x w (bit_and (b + 2) 63) c.in-ok-third.third e c.in-ok-third.ensures.value in
-    let f3 = is_shown x w (bit_and (b + 3) 63) c.in-ok-fourth.fourth e c.in-ok-fourth.ensures.value in
+    let w = meant c.in_ok-window.window in
+    let e : w ≡ window_of x = c.in_ok-window.ensures.value.0 in
+    let f0 = is_shown x w b c.in_ok-first.first e c.in_ok-first.ensures.value in
+    let f1 = is_shown x w (bit_and (b + 1) 63) c.in_ok-second.second e c.in_ok-second.ensures.value in
+    let f2 = is_shown x w (bit_and (b + 2) 63) c.in_ok-third.third e c.in_ok-third.ensures.value in
+    let f3 = is_shown x w (bit_and (b + 3) 63) c.in_ok-fourth.fourth e c.in_ok-fourth.ensures.value in
     let whole = all_shown x.mem.blocks x.code b c.requires in
     record { value = ap Ok (c.joined.ensures.value ∙ (λ j. f0 j ++ (f1 j ++ (f2 j ++ f3 j))) ∙ whole) }

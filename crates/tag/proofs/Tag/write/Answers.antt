@@ -11,4 +11,4 @@ inside (Err e) = None
 pub store-requires : goal.store-requires
 store-requires g c =
     let m = g.M.Memory.holds c.args.self.now.memory in
-    stored_within m c.args.block c.args.bytes c.in-Some.change (sym (ap inside c.in-ok-change.ensures.value) ∙ c.in-Some.is)
+    stored_within m c.args.block c.args.bytes c.in-Some.change (sym (ap inside c.in_ok-change.ensures.value) ∙ c.in-Some.is)

@@ -15,5 +15,5 @@ returns-in-3-to-15 c = record { value = simp and1 (grind (arith, nat_tests)) }
 pub returns-in-44-to-51 : goal.returns-in-44-to-51
 returns-in-44-to-51 c = record { value = simp and1 (grind (arith, nat_tests)) }
 
-pub returns-in-default : goal.returns-in-default
-returns-in-default c = record { value = simp (and1, and7) (grind (arith, nat_tests)) }
+pub returns-in_default : goal.returns-in_default
+returns-in_default c = record { value = simp (and1, and7) (grind (arith, nat_tests)) }

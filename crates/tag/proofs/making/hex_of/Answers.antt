@@ -5,5 +5,5 @@ pub returns : goal.returns
 returns c =
     let m = and_mask c.args.byte 4 in
     let a = c.digit_of.ensures.value in
-    let b = c.digit-of-2.ensures.value in
+    let b = c.digit_of-2.ensures.value in
     record { value = cc }

@@ -10,7 +10,7 @@ loop-block-preserved g c =
     let b = c.loop-block.block in
     let inv = c.loop-block.invariant in
     let some : 0 < m.left = omega (arith, inv.0, c.requires, c.loop-block-test.true) in
-    let w : holds c.write.new.self ≡ written m b c.made_block.result = c.in-ok-write.ensures.after in
+    let w : holds c.write.new.self ≡ written m b c.made_block.result = c.in_ok-write.ensures.after in
     let k = one_more m b c.loop-block-test.true some (holds c.write.new.self) c.args.identity.now (g.M.Memory.whole c.loop-block.memory)
     (w ∙ ap (written m b) c.made_block.ensures.value) inv.1 in
     (omega (arith, inv.0, k.0), k.1)
@@ -25,8 +25,8 @@ returns g c =
           (g.M.Memory.whole c.loop-block.memory);
     }
 
-pub returns-in-err-write : goal.returns-in-err-write
-returns-in-err-write g c =
+pub returns-in_err-write : goal.returns-in_err-write
+returns-in_err-write g c =
     let m = g.M.Memory.holds c.loop-block.memory in
     let some : 0 < m.left = omega (arith, c.loop-block.invariant.0, c.requires, c.loop-block-test.true) in
-    absurd (never_refused m c.loop-block.block c.loop-block-test.true some c.in-err-write.field-0.0 c.in-err-write.ensures.value)
+    absurd (never_refused m c.loop-block.block c.loop-block-test.true some c.in_err-write.field-0.0 c.in_err-write.ensures.value)

@@ -1,0 +1,12 @@
+// CRC_A for the phone app in C.
+#![tactic(auto)]
+
+ghost use Rattle.std.specs.Prelude.{◌≡◌};
+ghost use Rattle.air.specs.Crc.{crc};
+
+#[unsafe(no_mangle)]
+pub extern "C" fn youthgoat_crc_a(bytes: &[u8]) -> u16
+    ensures value { result ≡ crc bytes.now }
+{
+    air::crc::youthgoat_crc_a(bytes)
+}

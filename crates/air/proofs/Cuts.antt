@@ -6,7 +6,7 @@ use Rattle.std.proofs.lemmas.Nat.{shr-shr, mod-pow-add, pow-add, one_shl}
 use Rattle.std.proofs.lemmas.Bool.{and_right}
 use Rattle.std.proofs.lemmas.Bool.Decides.{nat_tests}
 use Rattle.air.specs.declared.bits.Bits.{Bits}
-use Rattle.air.specs.Bits.{cut, worth, bits_of, begins, gathered}
+use Rattle.air.specs.Bits.{cut, digits_worth, bits_of, begins, gathered}
 
 pub length-cut : (b k x : ℕ) → length (cut b k x) ≡ k
 length-cut b zero x = refl
@@ -50,15 +50,15 @@ cut_join (suc j) k x y h =
     cc
 
 -- the bits of bytes are those of the number that the bytes write
-pub bits_number : (bs : List ℕ) → ((i : ℕ) → get_or bs i 0 < 256) → bits_of bs ≡ cut 2 (8 * length bs) (worth 256 bs)
+pub bits_number : (bs : List ℕ) → ((i : ℕ) → get_or bs i 0 < 256) → bits_of bs ≡ cut 2 (8 * length bs) (digits_worth 256 bs)
 bits_number [] h = refl
 bits_number (b ∷ bs) h =
     let i = bits_number bs (λ i. h (suc i)) in
-    let j = cut_join 8 (8 * length bs) b (worth 256 bs) (h 0) in
+    let j = cut_join 8 (8 * length bs) b (digits_worth 256 bs) (h 0) in
     let e : 8 + 8 * length bs ≡ 8 * suc (length bs) = omega arith in
     cc
 
-pub number_below : (bs : List ℕ) → ((i : ℕ) → get_or bs i 0 < 256) → worth 256 bs < 2 ^ (8 * length bs)
+pub number_below : (bs : List ℕ) → ((i : ℕ) → get_or bs i 0 < 256) → digits_worth 256 bs < 2 ^ (8 * length bs)
 number_below [] h = omega arith
 number_below (b ∷ bs) h =
     let i = number_below bs (λ i. h (suc i)) in
@@ -68,10 +68,10 @@ number_below (b ∷ bs) h =
     let q : 2 ^ (8 * suc (length bs)) ≡ 2 ^ (8 * length bs) * 256 = ap (λ m. 2 ^ m) (sym e) ∙ p in
     omega (arith, q, i, z)
 
-pub worth-cut : (k x : ℕ) → worth 2 (cut 2 k x) ≡ x % 2 ^ k
-worth-cut zero x = omega arith
-worth-cut (suc k) x =
-    let i = worth-cut k (x / 2) in
+pub digits_worth-cut : (k x : ℕ) → digits_worth 2 (cut 2 k x) ≡ x % 2 ^ k
+digits_worth-cut zero x = omega arith
+digits_worth-cut (suc k) x =
+    let i = digits_worth-cut k (x / 2) in
     let m = mod-pow-add x k 1 in
     let o = add-one k in
     let e : x % 2 ^ suc k ≡ x / 2 % 2 ^ k * 2 + x % 2 = cc in
@@ -105,7 +105,7 @@ gathered_is bs y n a h =
     let t = take-cut 2 (8 * length bs) n y h in
     let e : take n (bits_of bs) ≡ cut 2 n y = ap (take n) a ∙ t in
     let l = length-cut 2 n y in
-    let w = worth-cut n y in
+    let w = digits_worth-cut n y in
     cc
 
 -- up to eight bytes, filled up with zeros
@@ -114,7 +114,7 @@ sum_of_eight xs =
     get_or xs 0 0 + get_or xs 1 0 * 256 + get_or xs 2 0 * 65536 + get_or xs 3 0 * 16777216 + get_or xs 4 0 * 4294967296 + get_or xs 5 0 * 1099511627776
     + get_or xs 6 0 * 281474976710656 + get_or xs 7 0 * 72057594037927936
 
-pub filled_up : (bs : List ℕ) → length bs ≤ 8 → sum_of_eight (bs ++ drop (length bs) (replicate 8 0)) ≡ worth 256 bs
+pub filled_up : (bs : List ℕ) → length bs ≤ 8 → sum_of_eight (bs ++ drop (length bs) (replicate 8 0)) ≡ digits_worth 256 bs
 filled_up [] h = refl
 filled_up (a ∷ []) h = omega arith
 filled_up (a ∷ b ∷ []) h = omega arith

@@ -9,9 +9,9 @@ cut b zero n = []
 cut b (suc k) n = n % b ∷ cut b k (n / b)
 
 -- the number that digits write, lowest first
-abbrev pub worth : ℕ → List ℕ → ℕ
-worth b [] = 0
-worth b (x ∷ xs) = worth b xs * b + x
+abbrev pub digits_worth : ℕ → List ℕ → ℕ
+digits_worth b [] = 0
+digits_worth b (x ∷ xs) = digits_worth b xs * b + x
 
 -- the bits of bytes
 abbrev pub bits_of : List ℕ → List ℕ
@@ -26,14 +26,14 @@ begins (x ∷ xs) (y ∷ ys) = x == y && begins xs ys
 
 -- bits as the code keeps them, and back
 abbrev pub gathered : List ℕ → Bits
-gathered bs = record { count = length bs; value = worth 2 bs }
+gathered bs = record { count = length bs; value = digits_worth 2 bs }
 
 abbrev pub spread : Bits → List ℕ
 spread b = cut 2 b.count b.value
 
 -- bits packed from bit 0 on, into five bytes with zeros above
 abbrev pub packed : List ℕ → Packed
-packed bs = record { count = length bs; bytes = cut 256 5 (worth 2 bs) }
+packed bs = record { count = length bs; bytes = cut 256 5 (digits_worth 2 bs) }
 
 -- if the given bits begin those of a level, the rest of them
 abbrev pub rest_after : List ℕ → Bits → Option Packed

@@ -176,6 +176,6 @@ fn answers_are_written(rt: HostRuntime) -> Result<(), Fail> {
 #[test]
 fn codes_are_written(rt: HostRuntime) -> Result<(), Fail> {
     let line = power_line(rt.alloc(), Ok((true, 5)), *b"A5z")?;
-    assert_eq!(rt; line.as_slice(), b"drawn 5 A5z\n");
+    assert_eq!(rt; line.as_slice(), b"drawn 5 A5z\n".as_slice());
     Ok(())
 }

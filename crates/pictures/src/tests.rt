@@ -269,7 +269,7 @@ fn later_bytes_are_kept(rt: HostRuntime) -> Result<(), Fail> {
         return Err(Fail::new("the sizes are right"));
     };
     assert_eq!(rt; n, 13);
-    assert_eq!(rt; &out[0..13], b"   9  12   0\n");
+    assert_eq!(rt; &out[0..13], b"   9  12   0\n".as_slice());
     for byte in &out[13..3200] {
         assert_eq!(rt; *byte, 0xee);
     }

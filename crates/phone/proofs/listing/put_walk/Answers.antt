@@ -1,4 +1,4 @@
-use Rattle.std.proofs.Common.{◌≡◌, ℕ, ◌+◌, List, ◌++◌, length, is_ok, sym, refl, ap, ◌∙◌, arith, length-append}
+use Rattle.std.proofs.Common.{◌≡◌, ℕ, ◌+◌, List, ◌++◌, is_ok, sym, refl, ap, ◌∙◌, arith, length-append}
 use Rattle.phone.specs.Buffers.{over}
 use Rattle.phone.specs.Cursors.{left}
 use Rattle.phone.specs.Layout.{walk_over}

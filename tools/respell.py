@@ -4,8 +4,10 @@
 usage: python3 tools/respell.py            at the top of the repository, once, right after the kit's port.py
 
 Functions, fields, constructors and lemmas are in snake case, types in camel case, and a dash joins two names, as in `take-cut`.
-A name is turned where it stands whole: in specs/ and proofs/, and in src/ outside of strings and comments.
-It writes nothing if a new name stands already in a file that has the old one, so that no two names fall together.
+Some lemmas so get their words in another order: what is said to have a length comes after `length`.
+A name is turned where it stands whole: outside of comments, and in src/ outside of strings too.
+It writes nothing if a new name stands already in a file of specs/ or proofs/, or in a `ghost use` of a file of src/, that has the
+old one, so that no two names fall together; but for the names of APART, which may.
 """
 
 import os

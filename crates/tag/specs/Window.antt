@@ -24,7 +24,7 @@ three code = slice_index code 0 ∷ slice_index code 1 ∷ slice_index code 2 �
 
 -- the custom field, 14 bytes from 240 on; the separator at 254, only with both; the code
 abbrev pub text_by : (ℕ → ℕ) → Bool → Bool → List ℕ → List ℕ
-text_by at custom code-too code = cond custom (map at (range_with_len 240 14)) [] ++ (cond (custom && code-too) (at 254 ∷ []) [] ++ cond code-too (three code) [])
+text_by at custom code_too code = cond custom (map at (range_with_len 240 14)) [] ++ (cond (custom && code_too) (at 254 ∷ []) [] ++ cond code_too (three code) [])
 
 -- the setting is block 46: bits 0 to 5 of address 184 are the block where the text starts, bits 6 and 7 of 185 the byte in it
 abbrev pub window_by : (ℕ → ℕ) → List ℕ → Window

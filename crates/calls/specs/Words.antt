@@ -1,5 +1,5 @@
 -- The words of a line: separated by spaces, up to the comment.
-use Rattle.std.specs.Prelude.{ℕ, zero, suc, not, List, take, drop, ◌==◌, nat_eq}
+use Rattle.std.specs.Prelude.{ℕ, zero, suc, not, List, take, drop, ◌==◌}
 use Rattle.std.specs.List.{prefix_len}
 
 -- how many signs come before the first sign c
@@ -8,7 +8,7 @@ up_to c s = prefix_len (λ x. not (x == c)) s
 
 -- how many spaces come first
 abbrev pub spaces : List ℕ → ℕ
-spaces s = prefix_len (λ x. nat_eq x 32) s
+spaces s = prefix_len (λ x. x == 32) s
 
 -- what comes after those
 abbrev pub unspaced : List ℕ → List ℕ

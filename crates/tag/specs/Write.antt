@@ -1,5 +1,5 @@
 -- WRITE: its rules in their order.
-use Rattle.std.specs.Prelude.{ℕ, Bool, cond, ◌&&◌, ◌||◌, List, [], ◌∷◌, get_or, Some, None, Option, ◌==◌, nat_lt, slice_index, slice_index_or}
+use Rattle.std.specs.Prelude.{ℕ, Bool, cond, ◌&&◌, ◌||◌, List, [], ◌∷◌, Some, None, Option, ◌==◌, nat_lt, slice_index, slice_index_or}
 use Rattle.std.specs.Str.{bytes_eq}
 use Rattle.air.specs.declared.answer.Answer.{Answer}
 use Rattle.air.specs.declared.answer.Answer.TheVariants.{Ack, Nack}
@@ -17,7 +17,7 @@ closed b = nat_lt 63 b || (b == 0 || (b == 1 || (b == 45 || (b == 49 || (b == 50
 -- the keyhole, block 48: where block 47 is locked and the data equals it, address 200 becomes A5h
 abbrev pub kill_by : List (List ℕ) → List ℕ → Option Change
 kill_by blocks sent =
-    let old = get_or blocks 50 [] in
+    let old = slice_index_or blocks 50 [] in
     cond (locked blocks 47 && bytes_eq sent (slice_index_or blocks 47 [])) (Some (record { block = 50; bytes = 0xa5 ∷ slice_index old 1 ∷ slice_index old 2 ∷ slice_index old 3 ∷ [] })) None
 
 -- any other block takes the data, or gains bits

@@ -1,6 +1,6 @@
 // Answers: what a tag says, and how it lies in the answer buffer.
 ghost use Rattle.std.specs.Prelude.{◌≡◌, ◌+◌, ◌/◌, ◌≤◌, length, take};
-ghost use Rattle.air.specs.Answers.{laid, with_crc, sak_of, nack_of, put_answer, put_buffer};
+ghost use Rattle.air.specs.Answers.{laid, with_crc, sak_of, put_answer, put_buffer};
 
 use crate::bits::Packed;
 use crate::crc::crc_a;
@@ -16,14 +16,14 @@ pub const NO_ROOM: Fault = Fault::Call {
     address: 0,
 };
 
-// Why a READ or WRITE is not done.
+// Why a READ or WRITE is not done, by the four bits that say so.
 #[derive(Clone, Copy)]
 pub enum Refusal {
     // There is no such block, or it may not be written so.
-    Block,
-    Crc,
+    Block = 0x0,
+    Crc = 0x1,
     // The memory refused.
-    Memory,
+    Memory = 0x5,
 }
 
 #[derive(Clone, Copy)]
@@ -59,26 +59,13 @@ fn sak(level: Level) -> u8
     }
 }
 
-fn nack(refusal: Refusal) -> u8
-    ensures value { result ≡ nack_of refusal }
-{
-    match refusal {
-        Refusal::Block => 0x0,
-        Refusal::Crc => 0x1,
-        Refusal::Memory => 0x5,
-    }
-}
-
 // Puts up to 16 bytes and their CRC_A first into the buffer.
 fn lay_with_crc(buffer: &mut [u8], bytes: &[u8])
     requires { (18 ≤ length buffer.old) × (length bytes.now ≤ 16) }
     ensures after { buffer.new ≡ laid buffer.old (with_crc bytes.now) }
 {
-    let n = bytes.len();
-    let [low, high] = crc_a(bytes).to_le_bytes();
     lay(buffer, bytes);
-    buffer[n] = low;
-    buffer[n + 1] = high;
+    lay(&mut buffer[bytes.len()..], &crc_a(bytes).to_le_bytes());
 }
 
 // Puts packed bits first into the buffer.
@@ -118,7 +105,7 @@ impl Answer {
                 Ok(4)
             }
             Answer::Nack { refusal } => {
-                lay(buffer, &[nack(refusal)]);
+                lay(buffer, &[refusal as u8]);
                 Ok(4)
             }
             Answer::Shown { bytes } => {

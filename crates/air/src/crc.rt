@@ -9,20 +9,30 @@ struct Register {
     high: u8,
 }
 
-const INITIAL: Register = Register {
-    low: 0x63,
-    high: 0x63,
-};
+impl Register {
+    const INITIAL: Register = Register {
+        low: 0x63,
+        high: 0x63,
+    };
 
-// The register after the eight bits of a byte, all at once.
-fn fed(register: Register, byte: u8) -> Register
-    ensures value { worth result ≡ byte_in (worth register) byte }
-{
-    let sum = register.low ^ byte;
-    let mixed = sum ^ (sum << 4);
-    Register {
-        low: register.high ^ (mixed << 3) ^ (mixed >> 4),
-        high: mixed ^ (mixed >> 5),
+    // The register after the eight bits of a byte, all at once.
+    fn fed(self, byte: u8) -> Register
+        ensures value { worth result ≡ byte_in (worth self) byte }
+    {
+        let sum = self.low ^ byte;
+        let mixed = sum ^ (sum << 4);
+        Register {
+            low: self.high ^ (mixed << 3) ^ (mixed >> 4),
+            high: mixed ^ (mixed >> 5),
+        }
+    }
+}
+
+impl From<Register> for u16 {
+    ghost from_gives = { λ r n. n ≡ worth r };
+
+    fn from(register: Register) -> u16 {
+        u16::from_le_bytes([register.low, register.high])
     }
 }
 
@@ -30,16 +40,9 @@ fn fed(register: Register, byte: u8) -> Register
 pub fn crc_a(bytes: &[u8]) -> u16
     ensures value { result ≡ crc bytes.now }
 {
-    let mut register = INITIAL;
+    let mut register = Register::INITIAL;
     for byte in bytes {
-        register = fed(register, *byte);
+        register = register.fed(*byte);
     }
-    u16::from_le_bytes([register.low, register.high])
-}
-
-// The same for the phone app in C, which air_c exports.
-pub fn youthgoat_crc_a(bytes: &[u8]) -> u16
-    ensures value { result ≡ crc bytes.now }
-{
-    crc_a(bytes)
+    u16::from(register)
 }

@@ -16,10 +16,10 @@ impl Fault {
         ensures value { result ≡ number_of self }
     {
         match self {
-            Fault::Memory { number, .. } => number,
-            Fault::Call { number, .. } => number,
-            Fault::Air { number, .. } => number,
-            Fault::Layout { number, .. } => number,
+            Fault::Memory { number, .. }
+            | Fault::Call { number, .. }
+            | Fault::Air { number, .. }
+            | Fault::Layout { number, .. } => number,
         }
     }
 
@@ -27,10 +27,10 @@ impl Fault {
         ensures value { result ≡ address_of self }
     {
         match self {
-            Fault::Memory { address, .. } => address,
-            Fault::Call { address, .. } => address,
-            Fault::Air { address, .. } => address,
-            Fault::Layout { address, .. } => address,
+            Fault::Memory { address, .. }
+            | Fault::Call { address, .. }
+            | Fault::Air { address, .. }
+            | Fault::Layout { address, .. } => address,
         }
     }
 }

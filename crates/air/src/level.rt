@@ -22,8 +22,9 @@ fn checked(a: u8, b: u8, c: u8, d: u8) -> [u8; 5]
 pub fn level_bytes(level: Level, uid: [u8; 7]) -> [u8; 5]
     ensures value { result ≡ level_bytes level uid }
 {
+    let [a, b, c, d, e, f, g] = uid;
     match level {
-        Level::One => checked(CASCADE_TAG, uid[0], uid[1], uid[2]),
-        Level::Two => checked(uid[3], uid[4], uid[5], uid[6]),
+        Level::One => checked(CASCADE_TAG, a, b, c),
+        Level::Two => checked(d, e, f, g),
     }
 }

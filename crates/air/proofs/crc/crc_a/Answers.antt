@@ -11,6 +11,4 @@ loop-byte-preserved c =
 
 pub returns : goal.returns
 unfolding crc
-returns c =
-    let w : c.from_le_bytes.result ≡ worth c.loop-byte.register = omega (arith, c.from_le_bytes.ensures) in
-    record { value = w ∙ c.loop-byte.invariant ∙ ap (fold byte_in 0x6363) (take_all _ _ c.loop-byte-test.false) }
+returns c = record { value = c.from.ensures ∙ c.loop-byte.invariant ∙ ap (fold byte_in 0x6363) (take_all _ _ c.loop-byte-test.false) }

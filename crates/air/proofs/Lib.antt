@@ -4,5 +4,3 @@ pub mod Register
 pub mod Cuts
 -- the rest of a level's bits
 mod Resting
--- bytes put first into a buffer
-pub mod Laying

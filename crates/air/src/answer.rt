@@ -73,8 +73,8 @@ fn lay_bits(buffer: &mut [u8], bits: Packed)
     requires { 5 ≤ length buffer.old }
     ensures after { buffer.new ≡ laid buffer.old (take ((bits.count + 7) / 8) bits.bytes) }
 {
-    let n = (bits.count as usize + 7) / 8;
-    lay(buffer, &bits.bytes[..n.min(5)]);
+    let n = usize::from(bits.count).div_ceil(8).min(bits.bytes.len());
+    lay(buffer, &bits.bytes[..n]);
 }
 
 impl Answer {
@@ -94,7 +94,7 @@ impl Answer {
             }
             Answer::Rest { bits } => {
                 lay_bits(buffer, bits);
-                Ok(bits.count as usize)
+                Ok(usize::from(bits.count))
             }
             Answer::Sak { level } => {
                 lay_with_crc(buffer, &[sak(level)]);

@@ -9,7 +9,7 @@ pub struct Bits {
     pub value: u64,
 }
 
-// A number of bits, packed into bytes from bit 0 on; the bits above are zeros.
+// A number of bits, packed into bytes from bit 0 on; the bits above are zeros. An array, since a tag allocates nothing.
 #[derive(Clone, Copy)]
 pub struct Packed {
     pub count: u8,

@@ -54,6 +54,14 @@ pub enum Frame {
     Unlisted,
 }
 
+// A frame that may be taken apart: its bytes, and how many bits of the last one count.
+#[derive(Clone, Copy)]
+struct Sent<'a> {
+    bytes: &'a [u8],
+    count: u8,
+    ghost fits: { (1 ≤ count) × ((count ≤ 8) × (length bytes.now ≤ 64)) },
+}
+
 // Whether these are the bytes of the run's CRC_A.
 fn is_sealed(bytes: &[u8], low: u8, high: u8) -> bool
     ensures value { result ≡ seals bytes.now low high }
@@ -72,98 +80,95 @@ fn short(byte: u8) -> Frame
     }
 }
 
-// The bits that an anticollision frame gives after NVB, whose digits count the bytes and bits of the whole frame.
+// The bits of the bytes after NVB, whose digits count the bytes and bits of the whole frame.
 fn given(nvb: u8, bytes: &[u8], count: u8) -> Option<Bits>
     requires { (1 ≤ count) × ((count ≤ 8) × (length bytes.now ≤ 64)) }
     ensures value { result ≡ given_by nvb bytes.now count }
 {
-    let whole = nvb >> 4;
-    let part = nvb & 0x0f;
-    if whole < 2 || whole > 6 || part > 7 {
+    let (whole @ 2..=6, part @ 0..=7) = (nvb >> 4, nvb & 0x0f) else {
         return None;
-    }
+    };
     let bits = 8 * (whole - 2) + part;
-    if 8 * bytes.len() + count as usize == bits as usize + 8 {
+    if 8 * bytes.len() + usize::from(count) == usize::from(bits) + 8 {
         Some(first_bits(bytes, bits))
     } else {
         None
     }
 }
 
-// The five bytes of a selection: NVB 70h, and CRC_A at the end.
-fn selected(frame: &[u8], count: u8) -> Option<[u8; 5]>
-    ensures value { result ≡ selected_by frame.now count }
-{
-    match frame {
-        [_, WHOLE_UID, a, b, c, d, bcc, low, high] if count == 8 => {
-            if is_sealed(&frame[..7], *low, *high) {
-                Some([*a, *b, *c, *d, *bcc])
-            } else {
-                None
-            }
-        }
-        _ => None,
+impl Sent<'_> {
+    // The bits of an anticollision, which follow NVB.
+    fn asked(&self) -> Option<Bits>
+        ensures value { result ≡ asked_by self.now.bytes.now self.now.count }
+    {
+        let [_, nvb, bytes @ ..] = self.bytes else {
+            return None;
+        };
+        given(*nvb, bytes, self.count)
     }
-}
 
-// The bits of an anticollision.
-fn asked(frame: &[u8], count: u8) -> Option<Bits>
-    requires { (1 ≤ count) × ((count ≤ 8) × (length frame.now ≤ 64)) }
-    ensures value { result ≡ asked_by frame.now count }
-{
-    let [_, nvb, bytes @ ..] = frame else {
-        return None;
-    };
-    given(*nvb, bytes, count)
-}
-
-// A frame of a cascade level.
-fn of_level(level: Level, frame: &[u8], count: u8) -> Frame
-    requires { (1 ≤ count) × ((count ≤ 8) × (length frame.now ≤ 64)) }
-    ensures value { result ≡ of_level level frame.now count }
-{
-    if let Some(bytes) = selected(frame, count) {
-        return Frame::Selection { level, bytes };
-    }
-    match asked(frame, count) {
-        Some(given) => Frame::Anticollision { level, given },
-        None => Frame::Unlisted,
-    }
-}
-
-fn kind(frame: &[u8], count: u8) -> Frame
-    requires { (1 ≤ count) × ((count ≤ 8) × (length frame.now ≤ 64)) }
-    ensures value { result ≡ taken_apart frame.now count }
-{
-    match frame {
-        [byte] if count == 7 => short(*byte),
-        [LEVEL_1, ..] => of_level(Level::One, frame, count),
-        [LEVEL_2, ..] => of_level(Level::Two, frame, count),
-        [HALT, 0x00, low, high] if count == 8 => {
-            if is_sealed(&frame[..2], *low, *high) {
-                Frame::Halt
-            } else {
-                Frame::Unlisted
-            }
-        }
-        [READ, block, low, high] if count == 8 => {
-            if is_sealed(&frame[..2], *low, *high) {
-                Frame::Read { block: *block }
-            } else {
-                Frame::Damaged
-            }
-        }
-        [WRITE, block, a, b, c, d, low, high] if count == 8 => {
-            if is_sealed(&frame[..6], *low, *high) {
-                Frame::Write {
-                    block: *block,
-                    bytes: [*a, *b, *c, *d],
+    // The five bytes of a selection: NVB 70h, and CRC_A at the end.
+    fn selected(&self) -> Option<[u8; 5]>
+        ensures value { result ≡ selected_by self.now.bytes.now self.now.count }
+    {
+        match self.bytes {
+            [_, WHOLE_UID, a, b, c, d, bcc, low, high] if self.count == 8 => {
+                if is_sealed(&self.bytes[..7], *low, *high) {
+                    Some([*a, *b, *c, *d, *bcc])
+                } else {
+                    None
                 }
-            } else {
-                Frame::Damaged
             }
+            _ => None,
         }
-        _ => Frame::Unlisted,
+    }
+
+    // A frame of a cascade level.
+    fn of_level(&self, level: Level) -> Frame
+        ensures value { result ≡ of_level level self.now.bytes.now self.now.count }
+    {
+        if let Some(bytes) = self.selected() {
+            return Frame::Selection { level, bytes };
+        }
+        match self.asked() {
+            Some(given) => Frame::Anticollision { level, given },
+            None => Frame::Unlisted,
+        }
+    }
+
+    fn kind(&self) -> Frame
+        ensures value { result ≡ taken_apart self.now.bytes.now self.now.count }
+    {
+        match self.bytes {
+            [byte] if self.count == 7 => short(*byte),
+            [LEVEL_1, ..] => self.of_level(Level::One),
+            [LEVEL_2, ..] => self.of_level(Level::Two),
+            [HALT, 0x00, low, high] if self.count == 8 => {
+                if is_sealed(&self.bytes[..2], *low, *high) {
+                    Frame::Halt
+                } else {
+                    Frame::Unlisted
+                }
+            }
+            [READ, block, low, high] if self.count == 8 => {
+                if is_sealed(&self.bytes[..2], *low, *high) {
+                    Frame::Read { block: *block }
+                } else {
+                    Frame::Damaged
+                }
+            }
+            [WRITE, block, a, b, c, d, low, high] if self.count == 8 => {
+                if is_sealed(&self.bytes[..6], *low, *high) {
+                    Frame::Write {
+                        block: *block,
+                        bytes: [*a, *b, *c, *d],
+                    }
+                } else {
+                    Frame::Damaged
+                }
+            }
+            _ => Frame::Unlisted,
+        }
     }
 }
 
@@ -180,5 +185,9 @@ pub fn taken_apart(frame: &[u8], count: u8) -> Result<Frame, Fault>
     if count == 0 || count > 8 {
         return Err(BAD_COUNT);
     }
-    Ok(kind(frame, count))
+    Ok(Sent {
+        bytes: frame,
+        count,
+    }
+    .kind())
 }

@@ -8,5 +8,5 @@ ghost use Rattle.air.specs.Crc.{crc};
 pub extern "C" fn youthgoat_crc_a(bytes: &[u8]) -> u16
     ensures value { result ≡ crc bytes.now }
 {
-    air::crc::youthgoat_crc_a(bytes)
+    air::crc::crc_a(bytes)
 }

@@ -1,6 +1,6 @@
-use Rattle.std.proofs.Common.{◌≡◌, fold, ap, ◌∙◌, arith, take_all}
+use Rattle.std.proofs.Common.{fold, ap, ◌∙◌, take_all}
 use Rattle.std.proofs.lemmas.List.Sums.{fold_more}
-use Rattle.air.specs.Crc.{worth, byte_in, crc}
+use Rattle.air.specs.Crc.{byte_in, crc}
 use Rattle.air.proofs.crc.crc_a.Goals as goal
 
 pub loop-byte-preserved : goal.loop-byte-preserved

@@ -3,4 +3,4 @@ pub mod Register
 -- bits as digits of a number
 pub mod Cuts
 -- the rest of a level's bits
-mod Resting
+pub mod Resting

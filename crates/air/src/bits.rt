@@ -49,11 +49,6 @@ fn rest_from(level: [u8; 5], count: u8) -> Packed
     }
 }
 
-// Bits survive gathering and packing.
-fn packing_holds()
-    ensures packing { Packing }
-{}
-
 impl Bits {
     // Whether these bits begin a level's.
     fn begin(self, level: [u8; 5]) -> bool
@@ -69,11 +64,11 @@ impl Bits {
     }
 
     // The rest of a level's bits, if these begin them.
+    #[tactic(auto, using(crate::proofs::Resting::packs))]
     pub fn rest_of(self, level: [u8; 5]) -> Option<Packed>
         ensures value { result ≡ rest_after level self }
         ensures packing { Packing }
     {
-        packing_holds();
         if self.begin(level) {
             Some(rest_from(level, self.count))
         } else {

@@ -37,6 +37,7 @@ impl From<Register> for u16 {
 }
 
 // CRC_A of a run of bytes; its low byte is sent first.
+#[tactic(auto, unfolding(crate::specs::Crc::crc))]
 pub fn crc_a(bytes: &[u8]) -> u16
     ensures value { result ≡ crc bytes.now }
 {

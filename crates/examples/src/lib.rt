@@ -24,10 +24,7 @@ fn with_size(size: u8) -> [u8; 256]
     ensures value { result ≡ sized_picture size }
 {
     let mut picture = [0; 256];
-    picture[12] = 0xe1;
-    picture[13] = 0x10;
-    picture[14] = size;
-    picture[16] = 0x03;
+    picture[12..17].copy_from_slice(&[0xe1, 0x10, size, 0x00, 0x03]);
     picture
 }
 
@@ -36,28 +33,17 @@ fn with_lock_area() -> [u8; 256]
     ensures value { result ≡ locked_picture }
 {
     let mut picture = with_size(0x1e);
-    picture[16] = 0x01;
-    picture[17] = 0x03;
-    picture[18] = 0xb0;
-    picture[19] = 0x18;
-    picture[20] = 0x34;
-    picture[21] = 0x04;
-    picture[22] = 152;
+    picture[16..23].copy_from_slice(&[0x01, 0x03, 0xb0, 0x18, 0x34, 0x04, 152]);
     picture[175] = 0x03;
     picture
 }
 
-// Every example holds of the rules.
-fn examples_hold()
-    ensures hold { Worked }
-{}
-
 // Every example holds of the rules, and the code gives what the rules give.
+#[tactic(auto, using(crate::proofs::Showing::worked))]
 pub fn worked_examples() -> Results
     ensures value { result ≡ given }
     ensures hold { Worked }
 {
-    examples_hold();
     Results {
         crc_of_zeros: crc_a(&[0x00, 0x00]).to_le_bytes(),
         crc_of_12_34: crc_a(&[0x12, 0x34]).to_le_bytes(),

@@ -12,17 +12,12 @@ pub struct Codes {
     pub last_code: [u8; 3],
 }
 
-// Every example of the tag end holds of the rules.
-fn tag_examples_hold()
-    ensures hold { WorkedTags }
-{}
-
 // Every example of the tag end holds of the rules, and the code gives what the rules give.
+#[tactic(auto, using(crate::proofs::Tapping::worked_tags))]
 pub fn worked_tag_examples() -> Codes
     ensures value { result ≡ codes_given }
     ensures hold { WorkedTags }
 {
-    tag_examples_hold();
     Codes {
         first_code: tap_code(0),
         code_of_36: tap_code(36),

@@ -1,12 +1,16 @@
 -- One record more, and what a run of records says of each block.
-use Rattle.std.proofs.Common.{◌≡◌, ℕ, zero, suc, ◌+◌, ◌-◌, ◌<◌, ◌≤◌, min, ◌≢◌, List, [], ◌∷◌, ◌++◌, length, get_or, take, set, Some, None, Option, unwrap_or, sym, refl, ap, ◌∙◌, ⊎_elim, arith, length-set, take_all}
+use Rattle.std.proofs.Common.{◌≡◌, ℕ, ◌+◌, ◌<◌, min, ◌≢◌, List, [], ◌∷◌, ◌++◌, length, get_or, take, set, Bool, true, false, cond, eqb, reverse, Some, None, Option, option_map, unwrap_or, sym, refl, ap, ◌∙◌, ⊎_elim, arith, length-set, take_all}
 use lib.Seq.{take-set-le}
+use Rattle.std.specs.List.{find}
+use Rattle.std.specs.Option.{option_or}
+use Rattle.std.proofs.lemmas.Grind.{reverse_onto}
+use Rattle.std.proofs.lemmas.List.Folds.{find-append}
 use Rattle.std.proofs.lemmas.List.{get_or-set_same, get_or-set_other, ext_get_or, take_more}
-use Rattle.std.proofs.lemmas.List.FromFn.{length-map-range_with_len, get_or-map-range_with_len}
+use Rattle.std.proofs.lemmas.List.FromFn.{get_or-map-range_with_len}
 use Rattle.std.proofs.lemmas.Bool.{cases_eq, cases_lt, cond-true, cond-false, eq-eqb, ne_eqb}
 use Rattle.memory.specs.declared.latest.Record.{Record}
 use Rattle.memory.specs.Latest.{later_or, said_by, latest_of}
-use Rattle.memory.specs.Log.{block_by, blocks_by}
+use Rattle.memory.specs.Log.{block_by, blocks_by, length_by}
 
 of_none : (b : ℕ) → latest_of [] b ≡ None
 unfolding latest_of
@@ -32,27 +36,23 @@ said_same r b e = cond-true _ _ _ (eq-eqb _ _ e)
 said_other : (r : Record) (b : ℕ) → r.block ≢ b → said_by r b ≡ None
 said_other r b n = cond-false _ _ _ (ne_eqb _ _ n)
 
-module _ (rs : List Record) (n b : ℕ) (d : Record) (some : 0 < n) (within : n ≤ length rs) where
-  of_take : latest_of (take n rs) b ≡ later_or (said_by (get_or rs (n - 1) d) b) (latest_of (take (n - 1) rs) b)
-  of_take =
-      let back : n ≡ n - 1 + 1 = omega arith in
-      ap (λ k. latest_of (take k rs) b) back ∙ ap (λ v. latest_of v b) (take_more rs (n - 1) d (omega arith)) ∙ of_more (take (n - 1) rs) (get_or rs (n - 1) d) b
+bytes_in : (x y : Option Record) → option_map (λ r. r.bytes) (option_or x y) ≡ later_or (option_map (λ r. r.bytes) x) (option_map (λ r. r.bytes) y)
+bytes_in (Some r) y = refl
+bytes_in None y = refl
 
-  -- the last record is the block's
-  pub found : (get_or rs (n - 1) d).block ≡ b → latest_of (take n rs) b ≡ Some (get_or rs (n - 1) d).bytes
-  found e = of_take ∙ ap (λ v. later_or v (latest_of (take (n - 1) rs) b)) (said_same (get_or rs (n - 1) d) b e)
+said_as : (r : Record) (b : ℕ) → option_map (λ r. r.bytes) (find (λ r. eqb r.block b) (r ∷ [])) ≡ said_by r b
+said_as r b = elim (eqb r.block b) as (λ t. option_map (λ (r : Record). r.bytes) (cond t (Some r) None) ≡ cond t (Some r.bytes) None) [ true ↦ refl | false ↦ refl ]
 
-  -- or it is not, and the others tell
-  pub passed : (get_or rs (n - 1) d).block ≢ b → latest_of (take n rs) b ≡ latest_of (take (n - 1) rs) b
-  passed e = of_take ∙ ap (λ v. later_or v (latest_of (take (n - 1) rs) b)) (said_other (get_or rs (n - 1) d) b e)
-
-pub none_left : (rs : List Record) (n b : ℕ) → n ≤ 0 → latest_of (take n rs) b ≡ None
-none_left rs zero b h = of_none b
-none_left rs (suc n) b h = let w : ⊥ = omega arith in absurd w
-
-pub length_by : (rs : List Record) → length (blocks_by rs) ≡ 64
-unfolding blocks_by
-length_by rs = length-map-range_with_len (block_by rs) 0 64
+-- the latest record is the first from the end
+pub latest_is : (rs : List Record) (b : ℕ) → option_map (λ r. r.bytes) (find (λ r. eqb r.block b) (reverse rs)) ≡ latest_of rs b
+unfolding latest_of
+latest_is [] b = refl
+latest_is (r ∷ rs) b =
+    let p : Record → Bool = λ r. eqb r.block b in
+    ap (λ l. option_map (λ (r : Record). r.bytes) (find p l)) (reverse_onto rs r [])
+    ∙ ap (option_map (λ r. r.bytes)) (find-append p (reverse rs) (r ∷ []))
+    ∙ bytes_in (find p (reverse rs)) (find p (r ∷ []))
+    ∙ (λ j. later_or (latest_is rs b j) (said_as r b j))
 
 pub block_at : (rs : List Record) (b : ℕ) → b < 64 → get_or (blocks_by rs) b [] ≡ block_by rs b
 unfolding blocks_by
@@ -96,3 +96,14 @@ take_min n xs =
     (λ l. let e : min n (length xs) ≡ n = omega arith in ap (λ m. take m xs) e)
     (λ l. let e : min n (length xs) ≡ length xs = omega arith in ap (λ m. take m xs) e ∙ take_all (length xs) xs (omega arith) ∙ sym (take_all n xs l))
     (cases_lt n (length xs))
+
+-- the bytes of the first record from the end, among the used ones that are there, or zeros
+pub told : (places : List Record) (used n b at : ℕ) (r : Option Record) → n ≡ min used (length places) → at ≡ b → b < 64
+    → r ≡ find (λ r. eqb r.block at) (reverse (take n places))
+    → unwrap_or (option_map (λ r. r.bytes) r) (0 ∷ 0 ∷ 0 ∷ 0 ∷ []) ≡ get_or (blocks_by (take used places)) b []
+told places used n b at r en eb hb er =
+    let t : take n places ≡ take used places = ap (λ k. take k places) en ∙ take_min used places in
+    let f : r ≡ find (λ (x : Record). eqb x.block b) (reverse (take used places)) = rw (← t, ← eb) er in
+    ap (λ o. unwrap_or (option_map (λ (x : Record). x.bytes) o) (0 ∷ 0 ∷ 0 ∷ 0 ∷ [])) f
+    ∙ ap (λ o. unwrap_or o (0 ∷ 0 ∷ 0 ∷ 0 ∷ [])) (latest_is (take used places) b)
+    ∙ sym (block_at (take used places) b hb)

@@ -1,24 +1,20 @@
 // The latest record of a block among records in the order of their writing.
-ghost use Rattle.std.specs.Prelude.{◌≡◌};
-ghost use Rattle.memory.specs.Latest.{latest_of};
+ghost use Rattle.std.specs.Prelude.{◌≡◌, ◌==◌, find, reverse};
 
 // One write: the block, and the bytes that it got.
-#[derive(Clone, Copy)]
+#[derive(Clone, Copy, Default)]
 pub struct Record {
     pub block: u8,
     pub bytes: [u8; 4],
 }
 
-// The bytes of the block's latest record, if it has one.
-pub(crate) fn latest(records: &[Record], block: u8) -> Option<[u8; 4]>
-    ensures value { result ≡ latest_of records.now block }
+// The block's latest record, if it has one.
+pub(crate) fn latest(records: &[Record], block: u8) -> Option<Record>
+    ensures value { result ≡ find (λ r. r.block == block) (reverse records.now) }
 {
-    let mut n = records.len();
-    while n > 0 {
-        n -= 1;
-        if records[n].block == block {
-            return Some(records[n].bytes);
-        }
-    }
-    None
+    records
+        .iter()
+        .rev()
+        .copied()
+        .find(|record| record.block == block)
 }

@@ -1,10 +1,6 @@
 -- One record more, and what a run of records says of each block.
-use Rattle.std.proofs.Common.{◌≡◌, ℕ, ◌+◌, ◌<◌, min, ◌≢◌, List, [], ◌∷◌, ◌++◌, length, get_or, take, set, Bool, true, false, cond, eqb, reverse, Some, None, Option, option_map, unwrap_or, sym, refl, ap, ◌∙◌, ⊎_elim, arith, length-set, take_all}
+use Rattle.std.proofs.Common.{◌≡◌, ℕ, ◌+◌, ◌<◌, min, ◌≢◌, List, [], ◌∷◌, ◌++◌, length, get_or, take, set, Some, None, Option, unwrap_or, sym, refl, ap, ◌∙◌, ⊎_elim, arith, length-set, take_all}
 use lib.Seq.{take-set-le}
-use Rattle.std.specs.List.{find}
-use Rattle.std.specs.Option.{option_or}
-use Rattle.std.proofs.lemmas.Grind.{reverse_onto}
-use Rattle.std.proofs.lemmas.List.Folds.{find-append}
 use Rattle.std.proofs.lemmas.List.{get_or-set_same, get_or-set_other, ext_get_or, take_more}
 use Rattle.std.proofs.lemmas.List.FromFn.{get_or-map-range_with_len}
 use Rattle.std.proofs.lemmas.Bool.{cases_eq, cases_lt, cond-true, cond-false, eq-eqb, ne_eqb}
@@ -36,23 +32,17 @@ said_same r b e = cond-true _ _ _ (eq-eqb _ _ e)
 said_other : (r : Record) (b : ℕ) → r.block ≢ b → said_by r b ≡ None
 said_other r b n = cond-false _ _ _ (ne_eqb _ _ n)
 
-bytes_in : (x y : Option Record) → option_map (λ r. r.bytes) (option_or x y) ≡ later_or (option_map (λ r. r.bytes) x) (option_map (λ r. r.bytes) y)
-bytes_in (Some r) y = refl
-bytes_in None y = refl
+-- the last record is the block's
+pub found : (all rs : List Record) (r : Record) (b : ℕ) → all ≡ rs ++ r ∷ [] → r.block ≡ b → latest_of all b ≡ Some r.bytes
+found all rs r b e h = ap (λ l. latest_of l b) e ∙ of_more rs r b ∙ ap (λ v. later_or v (latest_of rs b)) (said_same r b h)
 
-said_as : (r : Record) (b : ℕ) → option_map (λ r. r.bytes) (find (λ r. eqb r.block b) (r ∷ [])) ≡ said_by r b
-said_as r b = elim (eqb r.block b) as (λ t. option_map (λ (r : Record). r.bytes) (cond t (Some r) None) ≡ cond t (Some r.bytes) None) [ true ↦ refl | false ↦ refl ]
+-- or it is not, and the others tell
+pub passed : (all rs : List Record) (r : Record) (b : ℕ) → all ≡ rs ++ r ∷ [] → r.block ≢ b → latest_of all b ≡ latest_of rs b
+passed all rs r b e h = ap (λ l. latest_of l b) e ∙ of_more rs r b ∙ ap (λ v. later_or v (latest_of rs b)) (said_other r b h)
 
--- the latest record is the first from the end
-pub latest_is : (rs : List Record) (b : ℕ) → option_map (λ r. r.bytes) (find (λ r. eqb r.block b) (reverse rs)) ≡ latest_of rs b
-unfolding latest_of
-latest_is [] b = refl
-latest_is (r ∷ rs) b =
-    let p : Record → Bool = λ r. eqb r.block b in
-    ap (λ l. option_map (λ (r : Record). r.bytes) (find p l)) (reverse_onto rs r [])
-    ∙ ap (option_map (λ r. r.bytes)) (find-append p (reverse rs) (r ∷ []))
-    ∙ bytes_in (find p (reverse rs)) (find p (r ∷ []))
-    ∙ (λ j. later_or (latest_is rs b j) (said_as r b j))
+pub none_left : (rs : List Record) (b : ℕ) → length rs ≡ 0 → latest_of rs b ≡ None
+none_left [] b h = of_none b
+none_left (r ∷ rs) b h = let w : ⊥ = omega arith in absurd w
 
 pub block_at : (rs : List Record) (b : ℕ) → b < 64 → get_or (blocks_by rs) b [] ≡ block_by rs b
 unfolding blocks_by
@@ -69,12 +59,12 @@ one_more rs r hb =
     let inb : r.block < length (blocks_by rs) = omega (arith, length_by rs) in
     ⊎_elim
     (λ e.
-    let at : block_by more k ≡ r.bytes = ap (λ v. unwrap_or v (0 ∷ 0 ∷ 0 ∷ 0 ∷ [])) (of_more rs r k ∙ ap (λ v. later_or v (latest_of rs k)) (said_same r k (sym e))) in
+    let at : block_by more k ≡ r.bytes = ap (λ v. unwrap_or v (0 ∷ 0 ∷ 0 ∷ 0 ∷ [])) (found more rs r k refl (sym e)) in
     let q = get_or-set_same (blocks_by rs) r.block r.bytes [] inb in
     let z = ap (λ n. get_or (set (blocks_by rs) r.block r.bytes) n []) e in
     block_at more k k64 ∙ at ∙ sym q ∙ sym z)
     (λ n.
-    let at : block_by more k ≡ block_by rs k = ap (λ v. unwrap_or v (0 ∷ 0 ∷ 0 ∷ 0 ∷ [])) (of_more rs r k ∙ ap (λ v. later_or v (latest_of rs k)) (said_other r k (λ e. n (sym e)))) in
+    let at : block_by more k ≡ block_by rs k = ap (λ v. unwrap_or v (0 ∷ 0 ∷ 0 ∷ 0 ∷ [])) (passed more rs r k refl (λ e. n (sym e))) in
     let q = get_or-set_other (blocks_by rs) r.block k r.bytes [] n in
     block_at more k k64 ∙ at ∙ sym (block_at rs k k64) ∙ sym q)
     (cases_eq k r.block))
@@ -96,14 +86,3 @@ take_min n xs =
     (λ l. let e : min n (length xs) ≡ n = omega arith in ap (λ m. take m xs) e)
     (λ l. let e : min n (length xs) ≡ length xs = omega arith in ap (λ m. take m xs) e ∙ take_all (length xs) xs (omega arith) ∙ sym (take_all n xs l))
     (cases_lt n (length xs))
-
--- the bytes of the first record from the end, among the used ones that are there, or zeros
-pub told : (places : List Record) (used n b at : ℕ) (r : Option Record) → n ≡ min used (length places) → at ≡ b → b < 64
-    → r ≡ find (λ r. eqb r.block at) (reverse (take n places))
-    → unwrap_or (option_map (λ r. r.bytes) r) (0 ∷ 0 ∷ 0 ∷ 0 ∷ []) ≡ get_or (blocks_by (take used places)) b []
-told places used n b at r en eb hb er =
-    let t : take n places ≡ take used places = ap (λ k. take k places) en ∙ take_min used places in
-    let f : r ≡ find (λ (x : Record). eqb x.block b) (reverse (take used places)) = rw (← t, ← eb) er in
-    ap (λ o. unwrap_or (option_map (λ (x : Record). x.bytes) o) (0 ∷ 0 ∷ 0 ∷ 0 ∷ [])) f
-    ∙ ap (λ o. unwrap_or o (0 ∷ 0 ∷ 0 ∷ 0 ∷ [])) (latest_is (take used places) b)
-    ∙ sym (block_at (take used places) b hb)

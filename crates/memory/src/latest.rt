@@ -1,5 +1,6 @@
 // The latest record of a block among records in the order of their writing.
-ghost use Rattle.std.specs.Prelude.{◌≡◌, ◌==◌, find, reverse};
+ghost use Rattle.std.specs.Prelude.{◌≡◌};
+ghost use Rattle.memory.specs.Latest.{latest_of};
 
 // One write: the block, and the bytes that it got.
 #[derive(Clone, Copy, Default)]
@@ -8,13 +9,15 @@ pub struct Record {
     pub bytes: [u8; 4],
 }
 
-// The block's latest record, if it has one.
-pub(crate) fn latest(records: &[Record], block: u8) -> Option<Record>
-    ensures value { result ≡ find (λ r. r.block == block) (reverse records.now) }
+// The bytes of the block's latest record, if it has one.
+pub(crate) fn latest(records: &[Record], block: u8) -> Option<[u8; 4]>
+    ensures value { result ≡ latest_of records.now block }
 {
-    records
-        .iter()
-        .rev()
-        .copied()
-        .find(|record| record.block == block)
+    // `find` would take half as long again.
+    for record in records.iter().rev() {
+        if record.block == block {
+            return Some(record.bytes);
+        }
+    }
+    None
 }

@@ -13,11 +13,7 @@ const MOST_PLACES: usize = 4096;
 fn block_by(places: &[Record], used: usize, block: Block) -> [u8; 4]
     ensures value { result ≡ slice_index_or (blocks_by (take used places.now)) block [] }
 {
-    let records = &places[..used.min(places.len())];
-    match latest(records, block.number()) {
-        Some(record) => record.bytes,
-        None => [0; 4],
-    }
+    latest(&places[..used.min(places.len())], block.number()).unwrap_or([0; 4])
 }
 
 // Puts a record at the first unused place.

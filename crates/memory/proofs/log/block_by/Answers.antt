@@ -1,11 +1,14 @@
-use Rattle.std.proofs.Common.{Some, None, arith}
-use Rattle.memory.proofs.Records.{told}
+use Rattle.std.proofs.Common.{take, arith}
+use Rattle.memory.proofs.Records.{block_at, take_min}
 use Rattle.memory.proofs.log.block_by.Goals as goal
 
-pub returns-in-Some : goal.returns-in-Some
-returns-in-Some c =
-    record { value = told c.args.places.now c.args.used c.min.result c.args.block c.number.result (Some c.in-Some.record) c.min.ensures c.number.ensures.value (omega arith) c.in-Some.ensures.value }
-
-pub returns-in-None : goal.returns-in-None
-returns-in-None c =
-    record { value = told c.args.places.now c.args.used c.min.result c.args.block c.number.result None c.min.ensures c.number.ensures.value (omega arith) c.in-None.ensures.value }
+pub returns : goal.returns
+returns c =
+    let places = c.args.places.now in
+    let n = c.number.ensures.value in
+    let e = block_at (take c.args.used places) c.args.block (omega arith) in
+    let t = take_min c.args.used places in
+    let m = c.min.ensures in
+    let l = c.latest.ensures.value in
+    let v = c.unwrap_or.ensures in
+    record { value = cc }

@@ -1,0 +1,22 @@
+use Rattle.std.proofs.Common.{sym, ap, ◌∙◌}
+use Rattle.memory.proofs.Records.{found, passed, none_left}
+use Rattle.memory.specs.Latest.{latest_of}
+use Rattle.memory.proofs.latest.latest.Goals as goal
+
+pub loop-record-init : goal.loop-record-init
+loop-record-init c = rw (c.into_iter-record-iterator.ensures.into_iter_gives, c.rev-record-items.ensures.source) (ap (λ rs. latest_of rs c.args.block) c.iter.ensures.rest)
+
+pub returns-then-record-block : goal.returns-then-record-block
+returns-then-record-block c =
+    let s = c.in-Some.ensures.steps in
+    record { value = sym (found _ _ c.in-Some.record.now c.args.block s c.if-record-block.true) ∙ c.loop-record.invariant }
+
+pub loop-record-preserved : goal.loop-record-preserved
+loop-record-preserved c =
+    let s = c.in-Some.ensures.steps in
+    sym (passed _ _ c.in-Some.record.now c.args.block s c.if-record-block.false) ∙ c.loop-record.invariant
+
+pub returns : goal.returns
+returns c =
+    let s = c.in-None.ensures.steps in
+    record { value = sym (none_left _ c.args.block s.0) ∙ c.loop-record.invariant }

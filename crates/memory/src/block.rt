@@ -1,5 +1,5 @@
 // A block's number: there are 64 blocks.
-ghost use Rattle.std.specs.Prelude.{◌≡◌, ◌<◌};
+ghost use Rattle.std.specs.Prelude.{◌≡◌, ◌+◌, ◌%◌, ◌<◌};
 ghost use Rattle.memory.specs.Block.{numbered};
 
 use crate::{BLOCKS, NO_BLOCK};
@@ -38,6 +38,16 @@ impl Block {
         ensures below { result < 64 }
     {
         self.number
+    }
+
+    // The block that many further on, going on from the last to the first.
+    pub fn wrapping_add(self, further: u8) -> Block
+        ensures value { result ≡ (self + further) % 64 }
+        ensures below { self < 64 }
+    {
+        Block {
+            number: self.number.wrapping_add(further) % BLOCKS,
+        }
     }
 }
 

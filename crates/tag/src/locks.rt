@@ -3,18 +3,19 @@ ghost use Rattle.std.specs.Prelude.{◌≡◌, ◌*◌, ◌<◌};
 ghost use Rattle.tag.specs.Locks.{lock_bit, gained, gained_block, merged, Guards};
 
 use crate::map::{CAPABILITY, DYNAMIC_LOCKS, STATIC_LOCKS};
+use memory::block::Block;
 
 // The lock bit of a block, by the bytes of blocks 2 and 44.
-pub(crate) fn lock_bit(block: u8, fixed: [u8; 4], dynamic: [u8; 4]) -> bool
-    requires { block < 64 }
+pub(crate) fn lock_bit(block: Block, fixed: [u8; 4], dynamic: [u8; 4]) -> bool
     ensures value { result ≡ lock_bit fixed dynamic block }
 {
-    match block {
+    let number = block.number();
+    match number {
         0..=2 => false,
-        3..=15 => (u16::from_le_bytes([fixed[2], fixed[3]]) >> block) & 1 == 1,
-        44..=51 => (dynamic[3] >> (block - 44)) & 1 == 1,
+        3..=15 => (u16::from_le_bytes([fixed[2], fixed[3]]) >> number) & 1 == 1,
+        44..=51 => (dynamic[3] >> (number - 44)) & 1 == 1,
         _ => {
-            let k = (block - 16) >> 1;
+            let k = (number - 16) >> 1;
             (dynamic[(k >> 3) as usize] >> (k & 7)) & 1 == 1
         }
     }
@@ -56,10 +57,10 @@ fn gain_block(old: [u8; 4], fresh: [u8; 4]) -> [u8; 4]
 }
 
 // What a write leaves in a block.
-pub(crate) fn merge(block: u8, old: [u8; 4], fresh: [u8; 4]) -> [u8; 4]
+pub(crate) fn merge(block: Block, old: [u8; 4], fresh: [u8; 4]) -> [u8; 4]
     ensures value { result ≡ merged block old fresh }
 {
-    match block {
+    match block.number() {
         STATIC_LOCKS => gain_block(old, fresh),
         CAPABILITY | DYNAMIC_LOCKS => [
             old[0] | fresh[0],

@@ -1,8 +1,9 @@
 // READ: the shown bytes of four blocks.
-ghost use Rattle.std.specs.Prelude.{◌≡◌, ◌++◌, Ok, MatchResult};
+ghost use Rattle.std.specs.Prelude.{◌≡◌, Ok, MatchResult};
+ghost use Rattle.std.specs.List.{flat_map};
 ghost use Rattle.memory.specs.Memory.{block as block_in};
 ghost use Rattle.tag.specs.Boxes.{box_of};
-ghost use Rattle.tag.specs.Read.{window_of, bytes_of, shown_by};
+ghost use Rattle.tag.specs.Read.{window_of, shown_by};
 ghost use Rattle.tag.specs.Window.{meant, block_shown};
 
 use crate::Tag;
@@ -12,13 +13,10 @@ use air::fault::Fault;
 use memory::Memory;
 use memory::block::Block;
 
-fn joined(a: [u8; 4], b: [u8; 4], c: [u8; 4], d: [u8; 4]) -> [u8; 16]
-    ensures value { result ≡ bytes_of a ++ (bytes_of b ++ (bytes_of c ++ bytes_of d)) }
+fn joined(blocks: [[u8; 4]; 4]) -> [u8; 16]
+    ensures value { result ≡ flat_map (λ four. four) blocks }
 {
-    [
-        a[0], a[1], a[2], a[3], b[0], b[1], b[2], b[3], c[0], c[1], c[2], c[3], d[0], d[1], d[2],
-        d[3],
-    ]
+    *blocks.as_flattened().as_array().unwrap()
 }
 
 impl<M: Memory> Tag<M> {
@@ -27,6 +25,7 @@ impl<M: Memory> Tag<M> {
         ensures value { MatchResult result (λ w. meant w ≡ window_of (box_of M.holds self.now)) (λ _. ⊥) }
     {
         let setting = self.memory.read(SETTING)?;
+        // One by one, since of an array that is made with `?` in a closure nothing is known.
         let custom = [
             self.memory.read(CUSTOM)?,
             self.memory.read(CUSTOM + 1)?,
@@ -52,6 +51,6 @@ impl<M: Memory> Tag<M> {
         let second = self.shown(&window, block.wrapping_add(1))?;
         let third = self.shown(&window, block.wrapping_add(2))?;
         let fourth = self.shown(&window, block.wrapping_add(3))?;
-        Ok(joined(first, second, third, fourth))
+        Ok(joined([first, second, third, fourth]))
     }
 }

@@ -3,6 +3,7 @@ ghost use Rattle.std.specs.Prelude.{◌≡◌, ◌≤◌};
 
 use crate::map::{KEYHOLE, PASSWORD};
 use memory::block::Block;
+use std::array;
 
 // The first `len` bytes of `text`, from address `start` on: an array with a length beside it, since a tag allocates nothing.
 #[derive(Clone, Copy)]
@@ -45,8 +46,7 @@ impl Window {
         let block = address >> 2;
         if block == PASSWORD || block == KEYHOLE {
             0
-        } else if address >= 16
-            && address <= 175
+        } else if (16..=175).contains(&address)
             && address >= self.start
             && address - self.start < self.len
         {
@@ -61,11 +61,6 @@ impl Window {
         ensures value { result ≡ block_shown (meant self.now) block stored }
     {
         let at = 4 * block.number();
-        [
-            self.shown_byte(at, stored[0]),
-            self.shown_byte(at + 1, stored[1]),
-            self.shown_byte(at + 2, stored[2]),
-            self.shown_byte(at + 3, stored[3]),
-        ]
+        array::from_fn(|i| self.shown_byte(at + i as u8, stored[i]))
     }
 }

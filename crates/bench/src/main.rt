@@ -1,7 +1,7 @@
 // Times READ and power on over both memories, when given an argument.
 #![tactic(auto)]
 
-use anyhow::anyhow;
+use anyhow::ensure;
 use memory::Memory;
 use memory::latest::Record;
 use memory::log::LogMemory;
@@ -28,39 +28,36 @@ const SELECT_2: [u8; 9] = [0x95, 0x70, 0xe2, 0x84, 0x20, 0x00, 0x46, 0xb4, 0xc7]
 
 const READ_8: [u8; 4] = [0x30, 0x08, 0x4a, 0x24];
 
-const UNUSED: Record = Record {
-    block: 0,
-    bytes: [0; 4],
-};
-
-// Sends a frame that must be answered with so many bits.
+// Sends a frame that must be answered with so many bits. A call is what is timed, so it stays one.
+#[inline(never)]
 fn send<M: Memory>(tag: &mut Tag<M>, frame: &[u8], count: u8, bits: usize) -> anyhow::Result<()> {
     let mut buffer = [0; 18];
-    match tag.frame(frame, count, &mut buffer) {
-        Ok(n) if n == bits => Ok(()),
-        _ => Err(anyhow!("a frame was not answered as it should be")),
-    }
+    let answer = tag.frame(frame, count, &mut buffer);
+    ensure!(
+        matches!(answer, Ok(n) if n == bits),
+        "a frame was not answered as it should be"
+    );
+    Ok(())
 }
 
+#[inline(never)]
 fn tap<M: Memory>(tag: &mut Tag<M>) -> anyhow::Result<()> {
     tag.power_off();
-    match tag.power_on() {
-        Ok((true, _)) => Ok(()),
-        _ => Err(anyhow!("no code was drawn")),
-    }
+    ensure!(matches!(tag.power_on(), Ok((true, _))), "no code was drawn");
+    Ok(())
 }
 
 // Makes a tag, taps until its memory was written so often, and prints the mean time of a READ and of a power on.
 fn time<M: Memory + Drop>(
     rt: &HostRuntime,
     name: &str,
-    memory: M,
+    mut memory: M,
     writes: u32,
 ) -> anyhow::Result<()> {
-    let mut memory = memory;
-    if make(&mut memory, &IDENTITY).is_err() {
-        return Err(anyhow!("the memory is too small"));
-    }
+    ensure!(
+        make(&mut memory, &IDENTITY).is_ok(),
+        "the memory is too small"
+    );
     let mut tag = Tag::open(memory);
     for _ in 64..writes {
         tap(&mut tag)?;
@@ -86,7 +83,7 @@ fn run(rt: &HostRuntime) -> anyhow::Result<()> {
     let mut cells = [0; 256];
     time(rt, "picture", PictureMemory::new(&mut cells, 100_000), 100)?;
     for records in [100, 1_000, 4_000] {
-        let mut places = [UNUSED; 4096];
+        let mut places = [Record::default(); 4096];
         time(rt, "log", LogMemory::new(&mut places), records)?;
     }
     Ok(())

@@ -1,12 +1,12 @@
 -- One record more, and what a run of records says of each block.
-use Rattle.std.proofs.Common.{◌≡◌, ℕ, zero, suc, ◌+◌, ◌-◌, ◌<◌, ◌≤◌, min, ◌≢◌, List, [], ◌∷◌, ◌++◌, length, get_or, take, set, Some, None, Option, unwrap_or, sym, refl, ap, ◌∙◌, ⊎_elim, arith, length-set, take_all}
+use Rattle.std.proofs.Common.{◌≡◌, ℕ, ◌+◌, ◌<◌, min, ◌≢◌, List, [], ◌∷◌, ◌++◌, length, get_or, take, set, Some, None, Option, unwrap_or, sym, refl, ap, ◌∙◌, ⊎_elim, arith, length-set, take_all}
 use lib.Seq.{take-set-le}
 use Rattle.std.proofs.lemmas.List.{get_or-set_same, get_or-set_other, ext_get_or, take_more}
-use Rattle.std.proofs.lemmas.List.FromFn.{length-map-range_with_len, get_or-map-range_with_len}
+use Rattle.std.proofs.lemmas.List.FromFn.{get_or-map-range_with_len}
 use Rattle.std.proofs.lemmas.Bool.{cases_eq, cases_lt, cond-true, cond-false, eq-eqb, ne_eqb}
 use Rattle.memory.specs.declared.latest.Record.{Record}
 use Rattle.memory.specs.Latest.{later_or, said_by, latest_of}
-use Rattle.memory.specs.Log.{block_by, blocks_by}
+use Rattle.memory.specs.Log.{block_by, blocks_by, length_by}
 
 of_none : (b : ℕ) → latest_of [] b ≡ None
 unfolding latest_of
@@ -32,27 +32,17 @@ said_same r b e = cond-true _ _ _ (eq-eqb _ _ e)
 said_other : (r : Record) (b : ℕ) → r.block ≢ b → said_by r b ≡ None
 said_other r b n = cond-false _ _ _ (ne_eqb _ _ n)
 
-module _ (rs : List Record) (n b : ℕ) (d : Record) (some : 0 < n) (within : n ≤ length rs) where
-  of_take : latest_of (take n rs) b ≡ later_or (said_by (get_or rs (n - 1) d) b) (latest_of (take (n - 1) rs) b)
-  of_take =
-      let back : n ≡ n - 1 + 1 = omega arith in
-      ap (λ k. latest_of (take k rs) b) back ∙ ap (λ v. latest_of v b) (take_more rs (n - 1) d (omega arith)) ∙ of_more (take (n - 1) rs) (get_or rs (n - 1) d) b
+-- the last record is the block's
+pub found : (all rs : List Record) (r : Record) (b : ℕ) → all ≡ rs ++ r ∷ [] → r.block ≡ b → latest_of all b ≡ Some r.bytes
+found all rs r b e h = ap (λ l. latest_of l b) e ∙ of_more rs r b ∙ ap (λ v. later_or v (latest_of rs b)) (said_same r b h)
 
-  -- the last record is the block's
-  pub found : (get_or rs (n - 1) d).block ≡ b → latest_of (take n rs) b ≡ Some (get_or rs (n - 1) d).bytes
-  found e = of_take ∙ ap (λ v. later_or v (latest_of (take (n - 1) rs) b)) (said_same (get_or rs (n - 1) d) b e)
+-- or it is not, and the others tell
+pub passed : (all rs : List Record) (r : Record) (b : ℕ) → all ≡ rs ++ r ∷ [] → r.block ≢ b → latest_of all b ≡ latest_of rs b
+passed all rs r b e h = ap (λ l. latest_of l b) e ∙ of_more rs r b ∙ ap (λ v. later_or v (latest_of rs b)) (said_other r b h)
 
-  -- or it is not, and the others tell
-  pub passed : (get_or rs (n - 1) d).block ≢ b → latest_of (take n rs) b ≡ latest_of (take (n - 1) rs) b
-  passed e = of_take ∙ ap (λ v. later_or v (latest_of (take (n - 1) rs) b)) (said_other (get_or rs (n - 1) d) b e)
-
-pub none_left : (rs : List Record) (n b : ℕ) → n ≤ 0 → latest_of (take n rs) b ≡ None
-none_left rs zero b h = of_none b
-none_left rs (suc n) b h = let w : ⊥ = omega arith in absurd w
-
-pub length_by : (rs : List Record) → length (blocks_by rs) ≡ 64
-unfolding blocks_by
-length_by rs = length-map-range_with_len (block_by rs) 0 64
+pub none_left : (rs : List Record) (b : ℕ) → length rs ≡ 0 → latest_of rs b ≡ None
+none_left [] b h = of_none b
+none_left (r ∷ rs) b h = let w : ⊥ = omega arith in absurd w
 
 pub block_at : (rs : List Record) (b : ℕ) → b < 64 → get_or (blocks_by rs) b [] ≡ block_by rs b
 unfolding blocks_by
@@ -69,12 +59,12 @@ one_more rs r hb =
     let inb : r.block < length (blocks_by rs) = omega (arith, length_by rs) in
     ⊎_elim
     (λ e.
-    let at : block_by more k ≡ r.bytes = ap (λ v. unwrap_or v (0 ∷ 0 ∷ 0 ∷ 0 ∷ [])) (of_more rs r k ∙ ap (λ v. later_or v (latest_of rs k)) (said_same r k (sym e))) in
+    let at : block_by more k ≡ r.bytes = ap (λ v. unwrap_or v (0 ∷ 0 ∷ 0 ∷ 0 ∷ [])) (found more rs r k refl (sym e)) in
     let q = get_or-set_same (blocks_by rs) r.block r.bytes [] inb in
     let z = ap (λ n. get_or (set (blocks_by rs) r.block r.bytes) n []) e in
     block_at more k k64 ∙ at ∙ sym q ∙ sym z)
     (λ n.
-    let at : block_by more k ≡ block_by rs k = ap (λ v. unwrap_or v (0 ∷ 0 ∷ 0 ∷ 0 ∷ [])) (of_more rs r k ∙ ap (λ v. later_or v (latest_of rs k)) (said_other r k (λ e. n (sym e)))) in
+    let at : block_by more k ≡ block_by rs k = ap (λ v. unwrap_or v (0 ∷ 0 ∷ 0 ∷ 0 ∷ [])) (passed more rs r k refl (λ e. n (sym e))) in
     let q = get_or-set_other (blocks_by rs) r.block k r.bytes [] n in
     block_at more k k64 ∙ at ∙ sym (block_at rs k k64) ∙ sym q)
     (cases_eq k r.block))

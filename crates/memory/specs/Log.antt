@@ -18,7 +18,10 @@ blocks_by rs = map (block_by rs) (range_with_len 0 64)
 abbrev pub logged : List Record → ℕ → Contents
 logged places used = record { blocks = blocks_by (take used places); left = min (length places) 4096 - used }
 
+pub length_by : (rs : List Record) → length (blocks_by rs) ≡ 64
+unfolding blocks_by
+length_by rs = length-map-range_with_len (block_by rs) 0 64
+
 -- there are always 64
 pub all_logged : (places : List Record) (used : ℕ) → length (logged places used).blocks ≡ 64
-unfolding blocks_by
-all_logged places used = length-map-range_with_len (block_by (take used places)) 0 64
+all_logged places used = length_by (take used places)

@@ -1,5 +1,5 @@
 -- The blocks that lie in a buffer.
-use Rattle.std.specs.Prelude.{◌≡◌, ℕ, ◌+◌, ◌*◌, cond, List, [], ◌∷◌, map, length, replicate, ◌==◌, slice_index, slice_set, refl}
+use Rattle.std.specs.Prelude.{◌≡◌, ℕ, ◌+◌, ◌*◌, cond, List, [], ◌∷◌, map, length, replicate, ◌==◌, slice_index, refl}
 use Rattle.std.specs.List.{range_with_len}
 use Rattle.std.proofs.lemmas.List.FromFn.{length-map-range_with_len}
 use Rattle.std.proofs.lemmas.Bool.{cond_both}
@@ -13,10 +13,6 @@ four cells b = slice_index cells (4 * b) ∷ slice_index cells (4 * b + 1) ∷ s
 unfoldable pub blocks_in : List ℕ → List (List ℕ)
 blocks_in cells = map (four cells) (range_with_len 0 64)
 
--- four bytes put from address a on, all others kept
-abbrev pub put_four : List ℕ → ℕ → List ℕ → List ℕ
-put_four cells a bytes = slice_set (slice_set (slice_set (slice_set cells a (slice_index bytes 0)) (a + 1) (slice_index bytes 1)) (a + 2) (slice_index bytes 2)) (a + 3) (slice_index bytes 3)
-
 unfoldable pub zeros : List (List ℕ)
 zeros = replicate 64 (0 ∷ 0 ∷ 0 ∷ 0 ∷ [])
 
@@ -24,7 +20,7 @@ zeros = replicate 64 (0 ∷ 0 ∷ 0 ∷ 0 ∷ [])
 abbrev pub pictured : List ℕ → ℕ → Contents
 pictured cells left = cond (length cells == 256) (record { blocks = blocks_in cells; left = left }) (record { blocks = zeros; left = 0 })
 
-length_in : (cells : List ℕ) → length (blocks_in cells) ≡ 64
+pub length_in : (cells : List ℕ) → length (blocks_in cells) ≡ 64
 unfolding blocks_in
 length_in cells = length-map-range_with_len (four cells) 0 64
 

@@ -3,7 +3,7 @@ ghost use Rattle.std.specs.Prelude.{◌≡◌};
 ghost use Rattle.memory.specs.Latest.{latest_of};
 
 // One write: the block, and the bytes that it got.
-#[derive(Clone, Copy)]
+#[derive(Clone, Copy, Default)]
 pub struct Record {
     pub block: u8,
     pub bytes: [u8; 4],
@@ -13,11 +13,10 @@ pub struct Record {
 pub(crate) fn latest(records: &[Record], block: u8) -> Option<[u8; 4]>
     ensures value { result ≡ latest_of records.now block }
 {
-    let mut n = records.len();
-    while n > 0 {
-        n -= 1;
-        if records[n].block == block {
-            return Some(records[n].bytes);
+    // `find` would take half as long again.
+    for record in records.iter().rev() {
+        if record.block == block {
+            return Some(record.bytes);
         }
     }
     None

@@ -6,6 +6,7 @@ ghost use Rattle.memory.specs.Memory.{Contents, reading, writing, written};
 
 use air::fault::Fault;
 
+pub mod block;
 pub mod latest;
 pub mod log;
 pub mod picture;

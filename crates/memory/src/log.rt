@@ -2,29 +2,33 @@
 ghost use Rattle.std.specs.Prelude.{◌≡◌, ◌+◌, ◌<◌, [], length, take, slice_index_or, slice_set};
 ghost use Rattle.memory.specs.Log.{blocks_by, logged, all_logged};
 
+use crate::block::Block;
 use crate::latest::{Record, latest};
-use crate::{BLOCKS, Memory, NO_BLOCK, SPENT};
+use crate::{Memory, SPENT};
 use air::fault::Fault;
 
 const MOST_PLACES: usize = 4096;
 
 // A block as the records in the used places tell it.
-fn block_by(places: &[Record], used: usize, block: u8) -> [u8; 4]
-    requires { block < 64 }
+fn block_by(places: &[Record], used: usize, block: Block) -> [u8; 4]
     ensures value { result ≡ slice_index_or (blocks_by (take used places.now)) block [] }
 {
-    latest(&places[..used.min(places.len())], block).unwrap_or([0; 4])
+    latest(&places[..used.min(places.len())], block.number()).unwrap_or([0; 4])
 }
 
 // Puts a record at the first unused place.
-fn append(places: &mut [Record], used: usize, fresh: Record)
-    requires { (used < length places.old) × (fresh.block < 64) }
-    ensures places { places.new ≡ slice_set places.old used fresh }
-    ensures after { blocks_by (take (used + 1) places.new) ≡ slice_set (blocks_by (take used places.old)) fresh.block fresh.bytes }
+fn append(places: &mut [Record], used: usize, block: Block, bytes: [u8; 4])
+    requires { used < length places.old }
+    ensures places { places.new ≡ slice_set places.old used (record { block = block; bytes = bytes }) }
+    ensures after { blocks_by (take (used + 1) places.new) ≡ slice_set (blocks_by (take used places.old)) block bytes }
 {
-    places[used] = fresh;
+    places[used] = Record {
+        block: block.number(),
+        bytes,
+    };
 }
 
+// A buffer of the caller's and the number of its used places, since a memory allocates nothing.
 #[derive(Drop)]
 pub struct LogMemory<'a> {
     places: &'a mut [Record],
@@ -47,9 +51,7 @@ impl Memory for LogMemory<'_> {
     ghost whole = { λ p. all_logged p.places.now p.used };
 
     fn read(&self, block: u8) -> Result<[u8; 4], Fault> {
-        if block >= BLOCKS {
-            return Err(NO_BLOCK);
-        }
+        let block = Block::try_from(block)?;
         Ok(block_by(self.places, self.used, block))
     }
 
@@ -58,14 +60,12 @@ impl Memory for LogMemory<'_> {
     }
 
     fn write(&mut self, block: u8, bytes: [u8; 4]) -> Result<(), Fault> {
-        if block >= BLOCKS {
-            return Err(NO_BLOCK);
-        }
+        let block = Block::try_from(block)?;
         let at = self.used;
         if at >= self.places.len().min(MOST_PLACES) {
             return Err(SPENT);
         }
-        append(self.places, at, Record { block, bytes });
+        append(self.places, at, block, bytes);
         self.used = at + 1;
         Ok(())
     }

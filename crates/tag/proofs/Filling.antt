@@ -1,10 +1,9 @@
 -- Blocks written one after the other.
-use Rattle.std.proofs.Common.{◌≡◌, ℕ, ◌+◌, ◌-◌, ◌<◌, List, [], ◌∷◌, ◌++◌, length, get_or, take, is_ok, Ok, Err, sym, refl, ap, ◌∙◌, arith}
+use Rattle.std.proofs.Common.{◌≡◌, ℕ, ◌+◌, ◌-◌, ◌<◌, List, [], ◌∷◌, ◌++◌, length, get_or, take, sym, refl, ap, ◌∙◌, arith}
 use Rattle.std.proofs.lemmas.List.FromFn.{length-map-range_with_len, get_or-map-range_with_len}
 use Rattle.std.proofs.lemmas.List.{take_more, take_more_set, take_all}
-use Rattle.std.proofs.lemmas.Bool.{lt-ltb, true≢false}
-use Rattle.air.specs.declared.fault.Fault.{Fault}
-use Rattle.memory.specs.Memory.{Contents, stored, writing, written}
+use Rattle.std.proofs.lemmas.Bool.{lt-ltb}
+use Rattle.memory.specs.Memory.{Contents, stored, written}
 use Rattle.tag.specs.declared.making.Identity.{Identity}
 use Rattle.tag.specs.Making.{made_block, made_blocks, all_made}
 
@@ -19,11 +18,6 @@ made_at i b h = get_or-map-range_with_len (made_block i) 0 64 b b [] h (omega ar
 module _ (m : Contents) (b : ℕ) (below : b < 64) (some : 0 < m.left) where
   pub taken : (bytes : List ℕ) → written m b bytes ≡ stored m b bytes
   taken bytes = rw (lt-ltb b 64 below) (rw (lt-ltb 0 m.left some) refl)
-
-  pub never_refused : (f : Fault) → Err f ≡ writing m b → ⊥
-  never_refused f e =
-      let ok : writing m b ≡ Ok tt = rw (lt-ltb b 64 below) (rw (lt-ltb 0 m.left some) refl) in
-      true≢false (sym (ap is_ok (e ∙ ok)))
 
   -- one block more is as made
   pub one_more : (next : Contents) (i : Identity) → length m.blocks ≡ 64 → next ≡ written m b (made_block i b) → take b m.blocks ≡ take b (made_blocks i)

@@ -6,5 +6,3 @@ pub mod Coding
 pub mod Guarding
 -- the bytes that READ shows, block by block
 mod Showing
--- what a WRITE stores lies in a block that is there
-mod Changing

@@ -1,6 +1,5 @@
 -- The bytes that READ shows, block by block.
 use Rattle.std.proofs.Common.{◌≡◌, ℕ, ◌+◌, ◌*◌, ◌/◌, ◌%◌, ◌<◌, List, [], ◌∷◌, ◌++◌, get_or, sym, ap, ◌∙◌, arith}
-use lib.Bits.{bit_and, and_mask}
 use Rattle.tag.specs.Window.{Window, stored_at, window_by, byte_shown, block_shown, shown_at, shown_from}
 
 module _ (blocks : List (List ℕ)) (code : List ℕ) where
@@ -16,29 +15,29 @@ module _ (blocks : List (List ℕ)) (code : List ℕ) where
 
   -- the i-th block from block b on
   pub four_shown : (b i : ℕ) → b < 64 → i < 4
-      → block_shown w (bit_and (b + i) 63) (get_or blocks (bit_and (b + i) 63) [])
+      → block_shown w ((b + i) % 64) (get_or blocks ((b + i) % 64) [])
       ≡ shown_at blocks code ((4 * b + 4 * i) % 256) ∷ shown_at blocks code ((4 * b + (4 * i + 1)) % 256)
       ∷ shown_at blocks code ((4 * b + (4 * i + 2)) % 256) ∷ shown_at blocks code ((4 * b + (4 * i + 3)) % 256) ∷ []
   four_shown b i hb hi =
       let z = (b + i) % 64 in
-      let m : bit_and (b + i) 63 ≡ z = and_mask (b + i) 6 in
       let e0 = spot ((4 * b + 4 * i) % 256) (4 * z) z 0 (omega arith) (omega arith) (omega arith) in
       let e1 = spot ((4 * b + (4 * i + 1)) % 256) (4 * z + 1) z 1 (omega arith) (omega arith) (omega arith) in
       let e2 = spot ((4 * b + (4 * i + 2)) % 256) (4 * z + 2) z 2 (omega arith) (omega arith) (omega arith) in
       let e3 = spot ((4 * b + (4 * i + 3)) % 256) (4 * z + 3) z 3 (omega arith) (omega arith) (omega arith) in
-      ap (λ y. block_shown w y (get_or blocks y [])) m ∙ (λ j. sym e0 j ∷ sym e1 j ∷ sym e2 j ∷ sym e3 j ∷ [])
+      λ j. sym e0 j ∷ sym e1 j ∷ sym e2 j ∷ sym e3 j ∷ []
 
-  pub all_shown : (b : ℕ) → b < 64
+  pub all_shown : (b b1 b2 b3 : ℕ) → b < 64 → b1 ≡ (b + 1) % 64 → b2 ≡ (b + 2) % 64 → b3 ≡ (b + 3) % 64
       → block_shown w b (get_or blocks b [])
-      ++ (block_shown w (bit_and (b + 1) 63) (get_or blocks (bit_and (b + 1) 63) [])
-      ++ (block_shown w (bit_and (b + 2) 63) (get_or blocks (bit_and (b + 2) 63) [])
-      ++ block_shown w (bit_and (b + 3) 63) (get_or blocks (bit_and (b + 3) 63) [])))
+      ++ (block_shown w b1 (get_or blocks b1 [])
+      ++ (block_shown w b2 (get_or blocks b2 [])
+      ++ block_shown w b3 (get_or blocks b3 [])))
       ≡ shown_from blocks code b
   unfolding shown_from
-  all_shown b h =
-      let m : b ≡ bit_and (b + 0) 63 = (let q : b ≡ (b + 0) % 64 = omega arith in q) ∙ sym (and_mask (b + 0) 6) in
-      let f0 = ap (λ y. block_shown w y (get_or blocks y [])) m ∙ four_shown b 0 h (omega arith) in
-      let f1 = four_shown b 1 h (omega arith) in
-      let f2 = four_shown b 2 h (omega arith) in
-      let f3 = four_shown b 3 h (omega arith) in
+  all_shown b b1 b2 b3 h e1 e2 e3 =
+      let at = λ (k : ℕ). block_shown w k (get_or blocks k []) in
+      let m : b ≡ (b + 0) % 64 = omega arith in
+      let f0 = ap at m ∙ four_shown b 0 h (omega arith) in
+      let f1 = ap at e1 ∙ four_shown b 1 h (omega arith) in
+      let f2 = ap at e2 ∙ four_shown b 2 h (omega arith) in
+      let f3 = ap at e3 ∙ four_shown b 3 h (omega arith) in
       λ j. f0 j ++ (f1 j ++ (f2 j ++ f3 j))

@@ -1,5 +1,5 @@
 -- Power on and the tap code.
-use Rattle.std.specs.Prelude.{ℕ, ◌+◌, ◌*◌, ◌/◌, ◌%◌, Bool, true, false, cond, List, [], ◌∷◌, Ok, Err, Result, ◌==◌, nat_lt, slice_index}
+use Rattle.std.specs.Prelude.{ℕ, ◌+◌, ◌*◌, ◌/◌, ◌%◌, Bool, true, false, cond, List, [], ◌∷◌, Some, None, Option, Ok, Err, Result, ◌==◌, nat_lt, slice_index}
 use Rattle.air.specs.declared.fault.Fault.{Fault}
 use Rattle.air.specs.declared.fault.Fault.TheVariants.{Call}
 use Rattle.memory.specs.Memory.{Contents, block, takes, written}
@@ -29,6 +29,10 @@ draws m = cond (nat_lt (tap_number m) codes) (takes m) false
 
 abbrev pub drawing : Contents → Bool × ℕ
 drawing m = cond (draws m) (true, tap_number m) (false, 0)
+
+-- the number that is drawn, if one is
+abbrev pub drawn : Contents → Option ℕ
+drawn m = cond (draws m) (Some (tap_number m)) None
 
 -- the next number is written where there is a code for this one
 abbrev pub tap_counted : Contents → Contents

@@ -1,5 +1,5 @@
 -- READ: what a tag shows.
-use Rattle.std.specs.Prelude.{ℕ, List, [], ◌∷◌, slice_index}
+use Rattle.std.specs.Prelude.{ℕ, List}
 use Rattle.tag.specs.Boxes.{Box}
 use Rattle.tag.specs.Window.{Window, stored_at, window_by, shown_from}
 
@@ -10,7 +10,3 @@ window_of x = window_by (stored_at x.mem.blocks) x.code
 -- the bytes that READ shows from block b on
 abbrev pub shown_by : Box → ℕ → List ℕ
 shown_by x b = shown_from x.mem.blocks x.code b
-
--- the bytes of a block, one by one
-abbrev pub bytes_of : List ℕ → List ℕ
-bytes_of d = slice_index d 0 ∷ slice_index d 1 ∷ slice_index d 2 ∷ slice_index d 3 ∷ []

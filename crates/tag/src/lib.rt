@@ -1,10 +1,9 @@
 // The tag end of a box: made, powered, read, written, locked and killed, over any memory.
 #![tactic(auto)]
 
-ghost use Rattle.std.specs.Prelude.{◌≡◌, ◌<◌};
-ghost use Rattle.std.specs.Str.{bytes_eq};
-ghost use Rattle.memory.specs.Memory.{reading, takes, written};
-ghost use Rattle.tag.specs.Boxes.{box_of, holding};
+ghost use Rattle.std.specs.Prelude.{◌≡◌};
+ghost use Rattle.memory.specs.Memory.{reading};
+ghost use Rattle.tag.specs.Boxes.{box_of};
 
 use crate::state::State;
 use air::fault::Fault;
@@ -21,13 +20,6 @@ pub mod state;
 mod window;
 mod write;
 
-// Whether two runs of bytes are the same.
-fn same(a: &[u8], b: &[u8]) -> bool
-    ensures value { result ≡ bytes_eq a.now b.now }
-{
-    a == b
-}
-
 #[derive(Drop)]
 pub struct Tag<M: Memory> {
     memory: M,
@@ -39,15 +31,6 @@ pub struct Tag<M: Memory> {
 }
 
 impl<M: Memory> Tag<M> {
-    // Writes a block: whether the memory took it.
-    fn store(&mut self, block: u8, bytes: [u8; 4]) -> bool
-        requires { block < 64 }
-        ensures value { result ≡ takes (box_of M.holds self.old).mem }
-        ensures after { box_of M.holds self.new ≡ holding (box_of M.holds self.old) (written (box_of M.holds self.old).mem block bytes) }
-    {
-        self.memory.write(block, bytes).is_ok()
-    }
-
     // A stored block, as the board that owns the memory sees it.
     pub fn stored(&self, block: u8) -> Result<[u8; 4], Fault>
         ensures value { result ≡ reading (box_of M.holds self.now).mem block }

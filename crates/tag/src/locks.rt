@@ -1,20 +1,22 @@
 // Lock bits: which blocks are locked, and which bits a write of blocks 2, 3 and 44 sets.
-ghost use Rattle.std.specs.Prelude.{◌≡◌, ◌*◌, ◌<◌};
+ghost use Rattle.std.specs.Prelude.{◌≡◌, cond};
 ghost use Rattle.tag.specs.Locks.{lock_bit, gained, gained_block, merged, Guards};
 
 use crate::map::{CAPABILITY, DYNAMIC_LOCKS, STATIC_LOCKS};
+use memory::block::Block;
+use std::array;
 
 // The lock bit of a block, by the bytes of blocks 2 and 44.
-pub(crate) fn lock_bit(block: u8, fixed: [u8; 4], dynamic: [u8; 4]) -> bool
-    requires { block < 64 }
+pub(crate) fn lock_bit(block: Block, fixed: [u8; 4], dynamic: [u8; 4]) -> bool
     ensures value { result ≡ lock_bit fixed dynamic block }
 {
-    match block {
+    let number = block.number();
+    match number {
         0..=2 => false,
-        3..=15 => (u16::from_le_bytes([fixed[2], fixed[3]]) >> block) & 1 == 1,
-        44..=51 => (dynamic[3] >> (block - 44)) & 1 == 1,
+        3..=15 => (u16::from_le_bytes([fixed[2], fixed[3]]) >> number) & 1 == 1,
+        44..=51 => (dynamic[3] >> (number - 44)) & 1 == 1,
         _ => {
-            let k = (block - 16) >> 1;
+            let k = (number - 16) >> 1;
             (dynamic[(k >> 3) as usize] >> (k & 7)) & 1 == 1
         }
     }
@@ -26,20 +28,19 @@ pub(crate) fn guards_hold()
 {}
 
 // The bits that a guard shuts, if it is set.
-fn shut_by(guard: u16, mask: u16) -> u16
-    requires { guard < 2 }
-    ensures value { result ≡ guard * mask }
+fn shut_by(is_set: bool, mask: u16) -> u16
+    ensures value { result ≡ cond is_set mask 0 }
 {
-    if guard == 1 { mask } else { 0 }
+    if is_set { mask } else { 0 }
 }
 
 // The lock bits after a write of those carried: a guard that was set before shuts its bits.
 fn gain(old: u16, carried: u16) -> u16
     ensures value { result ≡ gained old carried }
 {
-    let shut = shut_by(old & 1, 0x0008)
-        | shut_by(old >> 1 & 1, 0x03f0)
-        | shut_by(old >> 2 & 1, 0xfc00);
+    let shut = shut_by(old & 1 == 1, 0x0008)
+        | shut_by(old >> 1 & 1 == 1, 0x03f0)
+        | shut_by(old >> 2 & 1 == 1, 0xfc00);
     old | (carried & !shut)
 }
 
@@ -56,17 +57,12 @@ fn gain_block(old: [u8; 4], fresh: [u8; 4]) -> [u8; 4]
 }
 
 // What a write leaves in a block.
-pub(crate) fn merge(block: u8, old: [u8; 4], fresh: [u8; 4]) -> [u8; 4]
+pub(crate) fn merge(block: Block, old: [u8; 4], fresh: [u8; 4]) -> [u8; 4]
     ensures value { result ≡ merged block old fresh }
 {
-    match block {
+    match block.number() {
         STATIC_LOCKS => gain_block(old, fresh),
-        CAPABILITY | DYNAMIC_LOCKS => [
-            old[0] | fresh[0],
-            old[1] | fresh[1],
-            old[2] | fresh[2],
-            old[3] | fresh[3],
-        ],
+        CAPABILITY | DYNAMIC_LOCKS => array::from_fn(|i| old[i] | fresh[i]),
         _ => fresh,
     }
 }

@@ -97,14 +97,8 @@ impl<M: Memory> Tag<M> {
     pub fn open(memory: M) -> Tag<M>
         ensures value { box_of M.holds result ≡ opened (M.holds memory) }
     {
-        let Ok(first) = memory.read(0) else {
-            unreachable()
-        };
-        let Ok(second) = memory.read(1) else {
-            unreachable()
-        };
-        let [a, b, c, _] = first;
-        let [d, e, f, g] = second;
+        let [a, b, c, _] = memory.read(0).unwrap();
+        let [d, e, f, g] = memory.read(1).unwrap();
         Tag {
             memory,
             state: State::Off,

@@ -1,7 +1,7 @@
 // Power off, power on, and the code that is drawn there.
 ghost use Rattle.std.specs.Prelude.{◌≡◌, Ok};
 ghost use Rattle.tag.specs.Boxes.{box_of, in_state};
-ghost use Rattle.tag.specs.Power.{drawing, drawn_box, power_answer, powered};
+ghost use Rattle.tag.specs.Power.{drawn, drawn_box, power_answer, powered};
 ghost use Rattle.tag.specs.declared.state.State.TheVariants.{Off};
 
 use crate::Tag;
@@ -29,20 +29,21 @@ impl<M: Memory> Tag<M> {
     }
 
     // Draws a code if there is one and a write is left: the next number is stored before the code is shown.
-    fn draw(&mut self) -> Result<(bool, u16), Fault>
-        ensures value { result ≡ Ok (drawing (box_of M.holds self.old).mem) }
+    fn draw(&mut self) -> Result<Option<u16>, Fault>
+        ensures value { result ≡ Ok (drawn (box_of M.holds self.old).mem) }
         ensures after { box_of M.holds self.new ≡ drawn_box (box_of M.holds self.old) }
     {
         let tap = u32::from_le_bytes(self.memory.read(TAPS)?);
         self.code = HYPHENS;
         if tap >= CODES {
-            return Ok((false, 0));
+            return Ok(None);
         }
-        if !self.store(TAPS, (tap + 1).to_le_bytes()) {
-            return Ok((false, 0));
+        if self.memory.write(TAPS, (tap + 1).to_le_bytes()).is_err() {
+            return Ok(None);
         }
-        self.code = tap_code(tap as u16);
-        Ok((true, tap as u16))
+        let tap = tap as u16;
+        self.code = tap_code(tap);
+        Ok(Some(tap))
     }
 
     // Power on from OFF: whether a code was drawn, and its tap number or 0.
@@ -50,9 +51,8 @@ impl<M: Memory> Tag<M> {
         ensures value { result ≡ power_answer (box_of M.holds self.old) }
         ensures after { box_of M.holds self.new ≡ powered (box_of M.holds self.old) }
     {
-        match self.state {
-            State::Off => {}
-            _ => return Err(POWERED),
+        if self.state != State::Off {
+            return Err(POWERED);
         }
         if self.memory.read(KILL)?[0] == KILLED {
             self.state = State::Killed;
@@ -60,6 +60,8 @@ impl<M: Memory> Tag<M> {
             return Ok((false, 0));
         }
         self.state = State::Idle;
-        self.draw()
+        let drawn = self.draw()?;
+        // A flag and a number is what a board gets, as a rule of the project.
+        Ok(drawn.map_or((false, 0), |tap| (true, tap)))
     }
 }

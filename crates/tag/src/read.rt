@@ -1,61 +1,56 @@
 // READ: the shown bytes of four blocks.
-ghost use Rattle.std.specs.Prelude.{◌≡◌, ◌<◌, ◌≤◌, ◌++◌, Ok, MatchResult};
+ghost use Rattle.std.specs.Prelude.{◌≡◌, Ok, MatchResult};
+ghost use Rattle.std.specs.List.{flat_map};
 ghost use Rattle.memory.specs.Memory.{block as block_in};
 ghost use Rattle.tag.specs.Boxes.{box_of};
-ghost use Rattle.tag.specs.Read.{window_of, bytes_of, shown_by};
+ghost use Rattle.tag.specs.Read.{window_of, shown_by};
 ghost use Rattle.tag.specs.Window.{meant, block_shown};
 
 use crate::Tag;
 use crate::map::{CUSTOM, SETTING};
-use crate::window::{Window, shown_block, window_by};
+use crate::window::Window;
 use air::fault::Fault;
-use memory::{BLOCKS, Memory};
+use memory::Memory;
+use memory::block::Block;
 
-// The last block's number, and the mask of all.
-const LAST: u8 = BLOCKS - 1;
-
-fn joined(a: [u8; 4], b: [u8; 4], c: [u8; 4], d: [u8; 4]) -> [u8; 16]
-    ensures value { result ≡ bytes_of a ++ (bytes_of b ++ (bytes_of c ++ bytes_of d)) }
+fn joined(blocks: [[u8; 4]; 4]) -> [u8; 16]
+    ensures value { result ≡ flat_map (λ four. four) blocks }
 {
-    [
-        a[0], a[1], a[2], a[3], b[0], b[1], b[2], b[3], c[0], c[1], c[2], c[3], d[0], d[1], d[2],
-        d[3],
-    ]
+    *blocks.as_flattened().as_array().unwrap()
 }
 
 impl<M: Memory> Tag<M> {
     // The window as it stands now: five blocks are read for it.
     fn window(&self) -> Result<Window, Fault>
-        ensures value { MatchResult result (λ w. (meant w ≡ window_of (box_of M.holds self.now)) × (w.len ≤ 18)) (λ _. ⊥) }
+        ensures value { MatchResult result (λ w. meant w ≡ window_of (box_of M.holds self.now)) (λ _. ⊥) }
     {
         let setting = self.memory.read(SETTING)?;
+        // One by one, since of an array that is made with `?` in a closure nothing is known.
         let custom = [
             self.memory.read(CUSTOM)?,
             self.memory.read(CUSTOM + 1)?,
             self.memory.read(CUSTOM + 2)?,
             self.memory.read(CUSTOM + 3)?,
         ];
-        Ok(window_by(setting, custom, self.code))
+        Ok(Window::new(setting, custom, self.code))
     }
 
     // The shown bytes of a block.
-    fn shown(&self, window: &Window, block: u8) -> Result<[u8; 4], Fault>
-        requires { (block < 64) × (window.now.len ≤ 18) }
+    fn shown(&self, window: &Window, block: Block) -> Result<[u8; 4], Fault>
         ensures value { result ≡ Ok (block_shown (meant window.now) block (block_in (box_of M.holds self.now).mem block)) }
     {
-        Ok(shown_block(window, block, self.memory.read(block)?))
+        Ok(window.shown_block(block, self.memory.read(block.number())?))
     }
 
     // The bytes that READ shows from a block on: four blocks, going on from the last to the first.
-    pub(crate) fn shown_from(&self, block: u8) -> Result<[u8; 16], Fault>
-        requires { block < 64 }
+    pub(crate) fn shown_from(&self, block: Block) -> Result<[u8; 16], Fault>
         ensures value { result ≡ Ok (shown_by (box_of M.holds self.now) block) }
     {
         let window = self.window()?;
         let first = self.shown(&window, block)?;
-        let second = self.shown(&window, (block + 1) & LAST)?;
-        let third = self.shown(&window, (block + 2) & LAST)?;
-        let fourth = self.shown(&window, (block + 3) & LAST)?;
-        Ok(joined(first, second, third, fourth))
+        let second = self.shown(&window, block.wrapping_add(1))?;
+        let third = self.shown(&window, block.wrapping_add(2))?;
+        let fourth = self.shown(&window, block.wrapping_add(3))?;
+        Ok(joined([first, second, third, fourth]))
     }
 }

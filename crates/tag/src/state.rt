@@ -4,15 +4,16 @@ ghost use Rattle.air.specs.declared.answer.Answer.TheVariants.{Silence, Atqa, Na
 ghost use Rattle.tag.specs.Boxes.{box_of, homed};
 ghost use Rattle.tag.specs.States.{woken, met, chosen, read_step, step_of};
 
-use crate::{Tag, same};
+use crate::Tag;
 use air::answer::{Answer, Refusal};
 use air::bits::Bits;
 use air::fault::Fault;
 use air::frame::Frame;
 use air::level::{Level, level_bytes};
-use memory::{BLOCKS, Memory};
+use memory::Memory;
+use memory::block::Block;
 
-#[derive(Clone, Copy)]
+#[derive(Clone, Copy, PartialEq, Eq)]
 pub enum State {
     Off,
     Killed,
@@ -78,7 +79,7 @@ impl<M: Memory> Tag<M> {
         ensures value { result ≡ (chosen (box_of M.holds self.old) level bytes next).answer }
         ensures after { box_of M.holds self.new ≡ (chosen (box_of M.holds self.old) level bytes next).after }
     {
-        if !same(&bytes, &level_bytes(level, self.uid)) {
+        if bytes != level_bytes(level, self.uid) {
             return self.lost();
         }
         self.state = next;
@@ -89,9 +90,9 @@ impl<M: Memory> Tag<M> {
         ensures value { result ≡ Ok (read_step (box_of M.holds self.old) block).answer }
         ensures after { box_of M.holds self.new ≡ (read_step (box_of M.holds self.old) block).after }
     {
-        if block >= BLOCKS {
+        let Ok(block) = Block::try_from(block) else {
             return Ok(self.nack(Refusal::Block));
-        }
+        };
         Ok(Answer::Shown {
             bytes: self.shown_from(block)?,
         })

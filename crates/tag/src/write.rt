@@ -1,40 +1,37 @@
 // WRITE: what may be written where, the keyhole, and the answer.
-ghost use Rattle.std.specs.Prelude.{◌≡◌, ◌<◌, Ok};
+ghost use Rattle.std.specs.Prelude.{◌≡◌, Ok};
 ghost use Rattle.tag.specs.Boxes.{box_of};
 ghost use Rattle.tag.specs.Locks.{locked};
 ghost use Rattle.tag.specs.Write.{closed, kill_by, merge_into, change_by, write_answer, write_box};
 
+use crate::Tag;
 use crate::locks::{lock_bit, merge};
 use crate::map::{
     DYNAMIC_LOCKS, KEYHOLE, KILL, LAST_CLOSED, PASSWORD, PRODUCT, STATIC_LOCKS, TAPS,
 };
 use crate::power::KILLED;
 use crate::state::State;
-use crate::{Tag, same};
 use air::answer::{Answer, Refusal};
 use air::fault::Fault;
-use memory::{BLOCKS, Memory};
+use memory::Memory;
+use memory::block::Block;
 
 // What an acknowledged WRITE stores.
 #[derive(Clone, Copy)]
 struct Change {
-    block: u8,
+    block: Block,
     bytes: [u8; 4],
 }
 
 // Blocks that no WRITE reaches.
-fn is_closed(block: u8) -> bool
+fn is_closed(block: Block) -> bool
     ensures value { result ≡ closed block }
 {
-    match block {
-        0 | 1 | PRODUCT | TAPS..=LAST_CLOSED => true,
-        _ => block >= BLOCKS,
-    }
+    matches!(block.number(), 0 | 1 | PRODUCT | TAPS..=LAST_CLOSED)
 }
 
 impl<M: Memory> Tag<M> {
-    fn is_locked(&self, block: u8) -> Result<bool, Fault>
-        requires { block < 64 }
+    fn is_locked(&self, block: Block) -> Result<bool, Fault>
         ensures value { result ≡ Ok (locked (box_of M.holds self.now).mem.blocks block) }
     {
         let fixed = self.memory.read(STATIC_LOCKS)?;
@@ -46,22 +43,21 @@ impl<M: Memory> Tag<M> {
     fn kill_by(&self, bytes: [u8; 4]) -> Result<Option<Change>, Fault>
         ensures value { result ≡ Ok (kill_by (box_of M.holds self.now).mem.blocks bytes) }
     {
-        if !self.is_locked(PASSWORD)? || !same(&bytes, &self.memory.read(PASSWORD)?) {
+        if !self.is_locked(Block::new(PASSWORD))? || bytes != self.memory.read(PASSWORD)? {
             return Ok(None);
         }
         let [_, b, c, d] = self.memory.read(KILL)?;
         Ok(Some(Change {
-            block: KILL,
+            block: Block::new(KILL),
             bytes: [KILLED, b, c, d],
         }))
     }
 
     // What a WRITE of any other block is to store.
-    fn merge_into(&self, block: u8, bytes: [u8; 4]) -> Result<Change, Fault>
-        requires { block < 64 }
+    fn merge_into(&self, block: Block, bytes: [u8; 4]) -> Result<Change, Fault>
         ensures value { result ≡ Ok (merge_into (box_of M.holds self.now).mem.blocks block bytes) }
     {
-        let old = self.memory.read(block)?;
+        let old = self.memory.read(block.number())?;
         Ok(Change {
             block,
             bytes: merge(block, old, bytes),
@@ -72,10 +68,13 @@ impl<M: Memory> Tag<M> {
     fn change_by(&self, block: u8, bytes: [u8; 4]) -> Result<Option<Change>, Fault>
         ensures value { result ≡ Ok (change_by (box_of M.holds self.now).mem.blocks block bytes) }
     {
+        let Ok(block) = Block::try_from(block) else {
+            return Ok(None);
+        };
         if is_closed(block) || self.is_locked(block)? {
             return Ok(None);
         }
-        if block == KEYHOLE {
+        if block.number() == KEYHOLE {
             return self.kill_by(bytes);
         }
         Ok(Some(self.merge_into(block, bytes)?))
@@ -88,7 +87,8 @@ impl<M: Memory> Tag<M> {
         let Some(change) = self.change_by(block, bytes)? else {
             return Ok(self.nack(Refusal::Block));
         };
-        if !self.store(change.block, change.bytes) {
+        let place = change.block.number();
+        if self.memory.write(place, change.bytes).is_err() {
             return Ok(self.nack(Refusal::Memory));
         }
         if block == KEYHOLE {

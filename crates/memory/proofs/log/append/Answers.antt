@@ -1,6 +1,9 @@
-use Rattle.std.proofs.Common.{refl, arith}
+use Rattle.std.proofs.Common.{arith}
 use Rattle.memory.proofs.Records.{appended}
 use Rattle.memory.proofs.log.append.Goals as goal
 
 pub returns : goal.returns
-returns c = record { places = refl; after = appended c.args.places.now c.args.used c.args.fresh (omega arith) (omega arith) }
+returns c =
+    let n = c.number.ensures.value in
+    let a = appended c.args.places.now c.args.used (record { block = c.args.block; bytes = c.args.bytes }) (omega arith) (omega arith) in
+    record { places = cc; after = cc }

@@ -1,14 +1,11 @@
-use Rattle.std.proofs.Common.{◌/◌}
+use Rattle.std.proofs.Common.{◌/◌, arith}
 use lib.Bits.{and_mask}
+use Rattle.std.proofs.lemmas.Bool.Decides.{nat_tests}
 use Rattle.tag.proofs.locks.gain.Goals as goal
 
 pub returns : goal.returns
 returns c =
-    let old = c.args.old in
-    let x = and_mask old 1 in
-    let y = and_mask (old / 2) 1 in
-    let z = and_mask (old / 4) 1 in
-    let a = c.shut_by.ensures.value in
-    let b = c.shut_by-2.ensures.value in
-    let d = c.shut_by-3.ensures.value in
-    record { value = cc }
+    let x = and_mask c.args.old 1 in
+    let y = and_mask (c.args.old / 2) 1 in
+    let z = and_mask (c.args.old / 4) 1 in
+    record { value = grind (arith, nat_tests) }

@@ -1,6 +1,6 @@
-use Rattle.std.proofs.Common.{◌≡◌, ◌<◌, refl, ap, ◌∙◌, arith}
+use Rattle.std.proofs.Common.{◌≡◌, ◌<◌, ap, ◌∙◌, arith}
 use Rattle.memory.specs.Memory.{written}
-use Rattle.tag.proofs.Filling.{one_more, never_refused, all_written}
+use Rattle.tag.proofs.Filling.{one_more, all_written}
 use Rattle.tag.proofs.making.write_all.Goals as goal
 
 pub loop-block-preserved : goal.loop-block-preserved
@@ -15,18 +15,9 @@ loop-block-preserved g c =
     (w ∙ ap (written m b) c.made_block.ensures.value) inv.1 in
     (omega (arith, inv.0, k.0), k.1)
 
-pub returns : goal.returns
-returns g c =
+pub returns-clause-after : goal.returns-clause-after
+returns-clause-after g c =
     let holds = g.M.Memory.holds in
     let inv = c.loop-block.invariant in
-    record {
-      value = refl;
-      after = all_written (holds c.args.memory.now) (holds c.loop-block.memory) c.loop-block.block c.args.identity.now (omega arith) inv.0 inv.1
-          (g.M.Memory.whole c.loop-block.memory);
-    }
-
-pub returns-in_err-write : goal.returns-in_err-write
-returns-in_err-write g c =
-    let m = g.M.Memory.holds c.loop-block.memory in
-    let some : 0 < m.left = omega (arith, c.loop-block.invariant.0, c.requires, c.loop-block-test.true) in
-    absurd (never_refused m c.loop-block.block c.loop-block-test.true some c.in_err-write.field-0.0 c.in_err-write.ensures.value)
+    all_written (holds c.args.memory.now) (holds c.loop-block.memory) c.loop-block.block c.args.identity.now (omega arith) inv.0 inv.1
+    (g.M.Memory.whole c.loop-block.memory)

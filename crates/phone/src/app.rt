@@ -6,7 +6,7 @@ ghost use Rattle.phone.specs.Layout.{walked};
 use crate::layout::{Message, walk};
 use air::fault::Fault;
 
-// Number 0 with place and length of the message, or a fault's number with its address in `place` and length 0.
+// Number 0 with place and length of the message, or a fault's number with its address in `place` and length 0: numbers, since it goes to C.
 #[repr(C)]
 #[derive(Clone, Copy)]
 pub struct Report {

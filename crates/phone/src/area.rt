@@ -8,7 +8,7 @@ pub(crate) const LOCK_CONTROL: u8 = 0x01;
 
 pub(crate) const MEMORY_CONTROL: u8 = 0x02;
 
-// Addresses from `start` up to `stop`, without `stop`.
+// Addresses from `start` up to `stop`, without `stop`. A type of its own and no `Range`, since the layout rules in specs/ speak of areas.
 #[derive(Clone, Copy)]
 pub(crate) struct Area {
     start: u32,

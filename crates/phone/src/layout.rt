@@ -5,7 +5,7 @@ ghost use Rattle.phone.specs.Layout.{Bounded, control, message_of, opened, three
 ghost use Rattle.phone.specs.Tiling.{ReadOff};
 
 use crate::area::{Area, LOCK_CONTROL, MEMORY_CONTROL, named_area};
-use crate::cursor::{AREA_START, Cursor};
+use crate::cursor::{AREA_START, Cursor, Picture};
 use crate::faults::{NO_CONTAINER, WRONG_SIZE, cut_short, long_length, no_message, not_three};
 use air::fault::Fault;
 
@@ -23,6 +23,7 @@ pub struct Message {
 }
 
 // One TLV: the address of its type byte, its type and length, and the address after its length byte (of a null, after its type byte).
+// The type is the byte itself, since any byte is a type and is listed as it stands.
 #[derive(Clone, Copy)]
 pub(crate) struct Tlv {
     pub(crate) at: u16,
@@ -43,6 +44,7 @@ impl Tlv {
     }
 }
 
+// Lock control or memory control.
 fn is_control(kind: u8) -> bool
     ensures value { result ≡ control kind }
 {
@@ -50,7 +52,7 @@ fn is_control(kind: u8) -> bool
 }
 
 // A cursor at the start of the picture's area.
-pub(crate) fn open(picture: &[u8; 256]) -> Result<Cursor<'_>, Fault>
+pub(crate) fn open(picture: &Picture) -> Result<Cursor<'_>, Fault>
     ensures value { result ≡ opened picture.now }
 {
     let end = AREA_START + 8 * u16::from(picture[14]);
@@ -100,7 +102,7 @@ impl Cursor<'_> {
         if is_control(kind) && length != 3 {
             return Err(not_three(at));
         }
-        if self.count() < usize::from(length) {
+        if self.count() < u16::from(length) {
             return Err(cut_short(at));
         }
         Ok(Tlv {
@@ -131,6 +133,7 @@ impl Cursor<'_> {
     }
 
     // The next TLV, passed over whole; of a message the value is still to be taken.
+    // No `Iterator`, since a walk never just ends: past the last TLV comes a fault.
     pub(crate) fn next_tlv(&mut self) -> Result<Tlv, Fault>
         ensures value { result ≡ tlv self.old.picture self.old.end self.old.left }
         ensures bound { Bounded result }
@@ -149,7 +152,7 @@ pub fn walk(picture: &[u8]) -> Result<Message, Fault>
     ensures value { result ≡ (walked picture.now).answer }
     ensures laid { ReadOff picture.now result }
 {
-    let Ok(picture) = <&[u8; 256]>::try_from(picture) else {
+    let Ok(picture) = <&Picture>::try_from(picture) else {
         return Err(WRONG_SIZE);
     };
     let mut cursor = open(picture)?;

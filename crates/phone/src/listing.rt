@@ -2,19 +2,19 @@
 ghost use Rattle.std.specs.Prelude.{◌≡◌, ◌+◌, ◌*◌, ◌/◌, ◌%◌, ◌<◌, ◌≤◌, true, length, is_ok, IfOk, if◌then◌else◌, nat_lt};
 ghost use Rattle.phone.specs.Buffers.{over};
 ghost use Rattle.phone.specs.Layout.{walk_over, walked};
-ghost use Rattle.phone.specs.Listing.{IsNear, column, line, last_line, text, listed, listed_into};
+ghost use Rattle.phone.specs.Listing.{IsNear, column, line, tlv_line, last_line, text, listed, listed_into};
 ghost use Rattle.phone.specs.Tiling.{LaidOut};
 
 use crate::app::Report;
-use crate::cursor::Cursor;
+use crate::cursor::{Cursor, Picture};
 use crate::faults::{SMALL_BUFFER, WRONG_SIZE};
-use crate::layout::{Message, open};
+use crate::layout::{Message, Tlv, open};
 use air::fault::Fault;
 
-// The bytes of the longest listing: 240 null TLVs and the last line.
-pub const LONGEST: usize = 3133;
-
 const LINE: usize = 13;
+
+// The bytes of the longest listing: 240 null TLVs and the last line.
+pub const LONGEST: usize = 241 * LINE;
 
 // The digit of n at a unit, or a space in front of the number.
 fn digit_at(n: u16, unit: u16) -> u8
@@ -52,6 +52,14 @@ fn line(a: u16, b: u16, c: u16) -> [u8; LINE]
     line
 }
 
+// The line of a TLV.
+fn tlv_line(tlv: Tlv) -> [u8; LINE]
+    requires { tlv.at < 10000 }
+    ensures value { result ≡ tlv_line tlv }
+{
+    line(tlv.at, u16::from(tlv.kind), u16::from(tlv.length))
+}
+
 // The line of a walk's answer.
 fn last_line(answer: Result<Message, Fault>) -> [u8; LINE]
     requires { IsNear answer }
@@ -87,11 +95,7 @@ fn put_walk(out: &mut [u8], mut cursor: Cursor) -> usize
     loop {
         match cursor.next_tlv() {
             Ok(tlv) => {
-                at = put_line(
-                    out,
-                    at,
-                    &line(tlv.at, u16::from(tlv.kind), u16::from(tlv.length)),
-                );
+                at = put_line(out, at, &tlv_line(tlv));
                 if let Some(message) = tlv.message() {
                     return put_line(out, at, &last_line(Ok(message)));
                 }
@@ -102,7 +106,7 @@ fn put_walk(out: &mut [u8], mut cursor: Cursor) -> usize
 }
 
 // Puts the listing of a picture into a buffer that is large enough: the number of bytes put.
-fn put_listing(out: &mut [u8], picture: &[u8; 256]) -> usize
+fn put_listing(out: &mut [u8], picture: &Picture) -> usize
     requires { 3133 ≤ length out.old }
     ensures value { result ≡ length (text (walked picture.now)) }
     ensures bound { result ≤ 3133 }
@@ -122,7 +126,7 @@ pub fn list(picture: &[u8], out: &mut [u8]) -> Result<usize, Fault>
     ensures after { out.new ≡ listed_into picture.now out.old }
     ensures laid { is_ok result ≡ true → LaidOut picture.now (walked picture.now) }
 {
-    let Ok(picture) = <&[u8; 256]>::try_from(picture) else {
+    let Ok(picture) = <&Picture>::try_from(picture) else {
         return Err(WRONG_SIZE);
     };
     if out.len() < LONGEST {

@@ -17,9 +17,7 @@ loop-tlv-preserved c =
     let f = m.fewer in
     let b = c.put_line-at.ensures.bound in
     let r = l.invariant.room in
-    let q = c.line.ensures.value in
-    let fk = c.from.ensures in
-    let fl = c.from-in-Ok.ensures in
+    let q = c.tlv_line.ensures.value in
     let p : c.put_line-at.new.out ≡ over l.out l.at (tlv_line t) = let e = c.put_line-at.ensures.after in cc in
     let n : c.put_line-at.result ≡ l.at + length (tlv_line t) = let e = c.put_line-at.ensures.value in cc in
     record { stands = line_on l.out c.put_line-at.new.out l.at c.put_line-at.result t _ _ _ _ n (omega arith) m.finds p l.invariant.stands; room = omega arith }
@@ -29,9 +27,7 @@ returns-in-Some c =
     let l = c.loop-tlv in
     let k = l.cursor in
     let t = c.in-Ok.tlv in
-    let q = c.line.ensures.value in
-    let fk = c.from.ensures in
-    let fl = c.from-in-Ok.ensures in
+    let q = c.tlv_line.ensures.value in
     let w = walk_ends k.picture k.end k.left t c.in-Some.message c.in-Ok.ensures.value (sym c.in-Some.is ∙ c.message.ensures.value) in
     let p : c.put_line-at.new.out ≡ over l.out l.at (tlv_line t) = let e = c.put_line-at.ensures.after in cc in
     let n : c.put_line-at.result ≡ l.at + length (tlv_line t) = let e = c.put_line-at.ensures.value in cc in

@@ -8,7 +8,6 @@ use Rattle.air.specs.declared.fault.Fault.TheVariants.{Call, Layout}
 use Rattle.air.specs.Faults.{number_of, address_of}
 use Rattle.phone.specs.Cursors.{Ahead, free, fresh}
 use Rattle.phone.specs.Layout.{area_end, area, accepted, opened, Findings, failed, walk_over, walked}
-use Rattle.phone.proofs.Clashes.{clash}
 
 unskipped : (n k : ℕ) → get_or (replicate n false) k false ≡ false
 unskipped zero k = refl
@@ -36,8 +35,8 @@ pub record Opened (pic : List ℕ) (c : Ahead) : Type 0 where
 
 is_open : (c o : Ahead) (b a : Bool) → cond b (cond a (Ok o) (Err (Layout 9 12))) (Err (Call 6 0)) ≡ Ok c → (b ≡ true) × (a ≡ true) × (o ≡ c)
 is_open c o true true h = (refl, refl, cc)
-is_open c o true false h = clash (cc)
-is_open c o false a h = clash (cc)
+is_open c o true false h = cc
+is_open c o false a h = cc
 
 accepted_end : (pic : List ℕ) → accepted pic ≡ true → area_end pic ≤ 256
 accepted_end pic h =
@@ -56,7 +55,7 @@ opening pic c h =
     subst (Opened pic) o.2 (record { finds = fresh_walk pic ∙ sym (cond-true _ _ _ o.0 ∙ cond-true _ _ _ o.1); few = omega arith })
 
 refused : (f : Fault) (o : Ahead) (w : Findings) (b a : Bool) → Err f ≡ cond b (cond a (Ok o) (Err (Layout 9 12))) (Err (Call 6 0)) → (cond b (cond a w (failed (Layout 9 12))) (failed (Call 6 0)) ≡ failed f) × (number_of f ≤ 256) × (address_of f ≤ 256)
-refused f o w true true k = clash (cc)
+refused f o w true true k = cc
 refused f o w true false k = let e : f ≡ Layout 9 12 = cc in rw e (refl, omega arith, omega arith)
 refused f o w false a k = let e : f ≡ Call 6 0 = cc in rw e (refl, omega arith, omega arith)
 

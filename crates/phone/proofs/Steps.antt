@@ -9,17 +9,16 @@ use Rattle.phone.specs.declared.layout.Tlv.{Tlv}
 use Rattle.phone.specs.Areas.{inside, outside}
 use Rattle.phone.specs.Cursors.{Ahead, leaving}
 use Rattle.phone.specs.Layout.{byte, control, named_in, cleared, sized, tlv, valued, past_length, beyond, Findings, failed, met, onto, going, walks, walk_over, message_of, onward}
-use Rattle.phone.proofs.Clashes.{clash}
 
 -- what one TLV that is read says of its value
 
 pub ok_right : (b : Bool) (g : Fault) (r : Result Tlv Fault) (t : Tlv) → cond b (Err g) r ≡ Ok t → (b ≡ false) × (r ≡ Ok t)
-ok_right true g r t h = clash (cc)
+ok_right true g r t h = cc
 ok_right false g r t h = (refl, h)
 
 ok_left : (b : Bool) (u : Tlv) (g : Fault) (t : Tlv) → cond b (Ok u) (Err g) ≡ Ok t → (b ≡ true) × (u ≡ t)
 ok_left true u g t h = (refl, cc)
-ok_left false u g t h = clash (cc)
+ok_left false u g t h = cc
 
 pub ok_either : (b : Bool) (u : Tlv) (r : Result Tlv Fault) (t : Tlv) → cond b (Ok u) r ≡ Ok t → ((b ≡ true) × (u ≡ t)) ⊎ ((b ≡ false) × (r ≡ Ok t))
 ok_either true u r t h = inl (refl, cc)
@@ -61,7 +60,7 @@ null_fits : (pic : List ℕ) (x : ℕ) (l : List ℕ) → eqb (get_or pic x 0) 0
 null_fits pic x l b = record { three = λ c. absurd (false≢true c); enough = omega arith; kind_is = sym (eqb-true _ _ b); then = cond-true _ _ _ b ∙ sym (cond-true _ _ _ b) }
 
 sized_fits : (pic : List ℕ) (x : ℕ) (l : List ℕ) (t : Tlv) → eqb (get_or pic x 0) 0 ≡ false → sized pic x (get_or pic x 0) l ≡ Ok t → Fits pic (x ∷ l) t
-sized_fits pic x [] t z h = clash (cc)
+sized_fits pic x [] t z h = cc
 sized_fits pic x (q ∷ vs) t z h =
     let r = says pic x q vs t h in
     let e = r.enough in
@@ -72,7 +71,7 @@ sized_fits pic x (q ∷ vs) t z h =
     subst (Fits pic (x ∷ q ∷ vs)) r.is u
 
 fits : (pic : List ℕ) (e : ℕ) (l : List ℕ) (t : Tlv) → Ok t ≡ tlv pic e l → Fits pic l t
-fits pic e [] t h = clash (cc)
+fits pic e [] t h = cc
 fits pic e (x ∷ l) t h =
     ⊎_elim (λ p. subst (Fits pic (x ∷ l)) p.1 (null_fits pic x l p.0))
     (λ p. sized_fits pic x l t p.0 (ok_right (eqb (get_or pic x 0) 0xfe) (Layout 13 x) _ t p.1).1)
@@ -149,10 +148,10 @@ answer_fails pic e l f h = answered (walk_over pic e l) (failed f) (walk_fails p
 is_message : (t : Tlv) (m : Message) → Some m ≡ message_of t → (t.kind ≡ 3) × (m ≡ record { place = t.place; length = t.length })
 is_message t m h =
     elim (eqb t.kind 3) as (λ b. eqb t.kind 3 ≡ b → Some m ≡ cond b (Some (record { place = t.place; length = t.length })) None → (t.kind ≡ 3) × (m ≡ record { place = t.place; length = t.length }))
-    [ true ↦ λ e k. (eqb-true _ _ e, cc) | false ↦ λ e k. clash (cc) ] refl h
+    [ true ↦ λ e k. (eqb-true _ _ e, cc) | false ↦ λ e k. cc ] refl h
 
 no_message : (t : Tlv) → None ≡ message_of t → t.kind ≡ 3 → ⊥
-no_message t h k = clash (let e = h ∙ cond-true _ _ _ (eq-eqb _ _ k) in cc)
+no_message t h k = let e = h ∙ cond-true _ _ _ (eq-eqb _ _ k) in cc
 
 -- nothing but the answer is left
 abbrev pub ended : List ℕ → Result Message Fault → Findings

@@ -1,5 +1,3 @@
--- constructors that are taken for equal
-pub mod Clashes
 -- the addresses still to be taken
 pub mod Addresses
 -- one TLV, and one after the other

@@ -1,6 +1,6 @@
 -- What a walk finds lies so in the picture.
 use Rattle.std.proofs.Common.{◌≡◌, ℕ, zero, suc, ◌+◌, ◌<◌, Bool, true, false, cond, not, ◌&&◌, eqb, leb, ◌⊎◌, List, [], ◌∷◌, ◌++◌, length, get_or, take, drop, is_ok, Ok, Err, Result, sym, refl, ap, ◌∙◌, subst, inl, inr, ⊎_elim, append_assoc, arith}
-use Rattle.std.proofs.lemmas.Bool.{cases_Bool, cond-true, cond-false, ne_eqb, eq-eqb, eqb-true, eqb-false, leb-false, false≢true, and_parts}
+use Rattle.std.proofs.lemmas.Bool.{cases_Bool, cond-true, cond-false, ne_eqb, eq-eqb, eqb-true, eqb-false, leb-false, not-true, and_parts}
 use Rattle.std.proofs.lemmas.List.{take-append-drop, length-take-le, get_or-take}
 use Rattle.std.specs.List.{flat_map, AllByRecursion}
 use Rattle.air.specs.declared.fault.Fault.{Fault}
@@ -11,7 +11,6 @@ use Rattle.phone.specs.Layout.{area, area_end, control, named_in, cleared, sized
 use Rattle.phone.specs.Tiling.{type_of, Null, Sized, Passed, entry, visible, Meets, Lengthy, Fails, nothing_left, terminated, no_length, long, not_three, cut_short, Ends, found, Lies}
 use Rattle.phone.proofs.Steps.{ok_right, ok_either, then_three, says, shorter}
 use Rattle.phone.proofs.Rising.{Above, Rising, Later, above_left, above_right, rising_right, rising_area, pruned, all_pruned, rising_pruned, visible-++, visible_nil, pruning, front_visible}
-use Rattle.phone.proofs.Clashes.{clash}
 
 -- what is found among the addresses l
 record Rest (pic : List ℕ) (e : ℕ) (l : List ℕ) (w : Findings) : Type 0 where
@@ -81,7 +80,7 @@ null_read pic x l t k h =
     }
 
 sized_read : (pic : List ℕ) (x : ℕ) (l : List ℕ) (t : Tlv) → (get_or pic x 0 ≡ 0 → ⊥) → (get_or pic x 0 ≡ 0xfe → ⊥) → sized pic x (get_or pic x 0) l ≡ Ok t → Reads pic (x ∷ l) t
-sized_read pic x [] t z f h = clash (cc)
+sized_read pic x [] t z f h = cc
 sized_read pic x (q ∷ vs) t z f h =
     let n : ℕ = get_or pic q 0 in
     let r = says pic x q vs t h in
@@ -98,7 +97,7 @@ sized_read pic x (q ∷ vs) t z f h =
     }
 
 reads : (pic : List ℕ) (e : ℕ) (l : List ℕ) (t : Tlv) → tlv pic e l ≡ Ok t → Reads pic l t
-reads pic e [] t h = clash (cc)
+reads pic e [] t h = cc
 reads pic e (x ∷ l) t h =
     ⊎_elim
     (λ p. null_read pic x l t (eqb-true (get_or pic x 0) 0 p.0) p.1)
@@ -109,7 +108,7 @@ reads pic e (x ∷ l) t h =
 -- a message that is read stands first
 
 sized_meets : (pic : List ℕ) (x : ℕ) (l : List ℕ) (t : Tlv) → eqb (get_or pic x 0) 0 ≡ false → sized pic x (get_or pic x 0) l ≡ Ok t → t.kind ≡ 3 → Meets pic (x ∷ l) (met t (valued pic (x ∷ l)))
-sized_meets pic x [] t z h k3 = clash (cc)
+sized_meets pic x [] t z h k3 = cc
 sized_meets pic x (q ∷ vs) t z h k3 =
     let n : ℕ = get_or pic q 0 in
     let r = says pic x q vs t h in
@@ -132,7 +131,7 @@ sized_meets pic x (q ∷ vs) t z h k3 =
     subst (λ y. Meets pic (x ∷ q ∷ vs) (met t y)) (sym v) mt
 
 meets : (pic : List ℕ) (e : ℕ) (l : List ℕ) (t : Tlv) → tlv pic e l ≡ Ok t → t.kind ≡ 3 → Meets pic l (met t (valued pic l))
-meets pic e [] t h k = clash (cc)
+meets pic e [] t h k = cc
 meets pic e (x ∷ l) t h k =
     ⊎_elim
     (λ p. let y = ap (λ (z : Tlv). z.kind) p.1 in let b : ⊥ = omega arith in absurd b)
@@ -146,18 +145,11 @@ err_right true g f r h = inl (refl, cc)
 err_right false g f r h = inr (refl, h)
 
 err_past : (b : Bool) (u : Tlv) (f : Fault) (r : Result Tlv Fault) → cond b (Ok u) r ≡ Err f → (b ≡ false) × (r ≡ Err f)
-err_past true u f r h = clash (cc)
+err_past true u f r h = cc
 err_past false u f r h = (refl, h)
 
-same_fault : (g f : Fault) → ◌≡◌ {A = Result Tlv Fault} (Err g) (Err f) → g ≡ f
-same_fault g f h = cc
-
-not_true : (b : Bool) → not b ≡ true → b ≡ false
-not_true true h = absurd (false≢true h)
-not_true false h = refl
-
 sized_fails : (pic : List ℕ) (e x : ℕ) (l : List ℕ) (f : Fault) → Lengthy (get_or pic x 0) → sized pic x (get_or pic x 0) l ≡ Err f → Fails pic e (x ∷ l) f
-sized_fails pic e x [] f y h = subst (Fails pic e (x ∷ [])) (same_fault (Layout 11 x) f h) (no_length x y)
+sized_fails pic e x [] f y h = let g : Layout 11 x ≡ f = cc in subst (Fails pic e (x ∷ [])) g (no_length x y)
 sized_fails pic e x (q ∷ vs) f y h =
     let n : ℕ = get_or pic q 0 in
     let k : ℕ = get_or pic x 0 in
@@ -166,15 +158,16 @@ sized_fails pic e x (q ∷ vs) f y h =
     (λ a. subst P a.1 (long x q vs y (eqb-true n 255 a.0)))
     (λ a. ⊎_elim
     (λ b. let p = and_parts (control k) (not (eqb n 3)) b.0 in
-    subst P b.1 (not_three x q vs p.0 (eqb-false n 255 a.0) (eqb-false n 3 (not_true (eqb n 3) p.1))))
+    subst P b.1 (not_three x q vs p.0 (eqb-false n 255 a.0) (eqb-false n 3 (not-true (eqb n 3) p.1))))
     (λ b. let c = err_past (leb n (length vs)) _ f _ b.1 in
-    subst P (same_fault (Layout 11 x) f c.1)
+    let g : Layout 11 x ≡ f = cc c.1 in
+    subst P g
     (cut_short x q vs y (eqb-false n 255 a.0) (λ z. eqb-true n 3 (then_three (control k) (eqb n 3) b.0 z)) (leb-false n (length vs) c.0)))
     (err_right (control k && not (eqb n 3)) (Layout 10 x) f _ a.1))
     (err_right (eqb n 255) (Layout 12 x) f _ h)
 
 fails : (pic : List ℕ) (e : ℕ) (l : List ℕ) (f : Fault) → tlv pic e l ≡ Err f → Fails pic e l f
-fails pic e [] f h = subst (Fails pic e []) (same_fault (Layout 13 e) f h) nothing_left
+fails pic e [] f h = let g : Layout 13 e ≡ f = cc in subst (Fails pic e []) g nothing_left
 fails pic e (x ∷ l) f h =
     let k : ℕ = get_or pic x 0 in
     let a = err_past (eqb k 0) _ f _ h in

@@ -13,7 +13,6 @@ use Rattle.phone.proofs.Steps.{walk_fails, walk_meets, walk_passes}
 use Rattle.phone.proofs.Rising.{Above, Rising, rising_left, rising_right, crossing, rising_area, pruned, rising_pruned, visible_nil, all_visible, rising_visible, pruning, five, fifth, hides_control, hidden_all_past}
 use Rattle.phone.proofs.Blocks.{blockwise}
 use Rattle.phone.proofs.Lying.{pruned_same, lies}
-use Rattle.phone.proofs.Clashes.{clash}
 
 -- what stands first is what the rules of one TLV give
 
@@ -123,13 +122,10 @@ record Front (pic : List ℕ) (ms : List (List ℕ)) (l m xs : List ℕ) : Type 
   split : l ≡ m ++ more
   then : visible pic ms more ≡ xs
 
-head_same : (x y : ℕ) (xs ys : List ℕ) → x ∷ xs ≡ y ∷ ys → (x ≡ y) × (xs ≡ ys)
-head_same x y xs ys h = (cc, cc)
-
 front : (pic : List ℕ) (ms : List (List ℕ)) (l m xs : List ℕ) → Rising l → visible pic ms l ≡ m ++ xs → ((a : ℕ) → hidden pic ms a ≡ true → AllByRecursion (λ y. y < a) m) → Front pic ms l m xs
 unfolding visible
 front pic ms l [] xs u v h = record { more = l; split = refl; then = v }
-front pic ms [] (y ∷ m) xs u v h = clash (cc)
+front pic ms [] (y ∷ m) xs u v h = cc
 front pic ms (x ∷ l) (y ∷ m) xs u v h =
     ⊎_elim
     (λ t.
@@ -139,9 +135,9 @@ front pic ms (x ∷ l) (y ∷ m) xs u v h =
     let q = (h x t).0 in
     let z : ⊥ = omega arith in absurd z)
     (λ f.
-    let e = head_same x y (visible pic ms l) (m ++ xs) (sym (cond-false _ _ _ f) ∙ v) in
-    let r = front pic ms l m xs u.1 e.1 (λ a k. (h a k).1) in
-    let s : x ∷ l ≡ y ∷ (m ++ r.more) = let p = e.0 in let q = r.split in cc in
+    let e : x ∷ visible pic ms l ≡ y ∷ (m ++ xs) = sym (cond-false _ _ _ f) ∙ v in
+    let r = front pic ms l m xs u.1 (cc) (λ a k. (h a k).1) in
+    let s : x ∷ l ≡ y ∷ (m ++ r.more) = let q = r.split in cc in
     record { more = r.more; split = s; then = r.then })
     (cases_Bool (hidden pic ms x))
 

@@ -1,6 +1,7 @@
 -- Lists of addresses in rising order, and what of them is visible.
 use Rattle.std.proofs.Common.{◌≡◌, ℕ, zero, suc, ◌+◌, ◌*◌, ◌<◌, ◌≤◌, Bool, true, false, cond, ◌&&◌, ◌||◌, List, [], ◌∷◌, ◌++◌, length, get_or, sym, refl, ap, ◌∙◌, ⊎_elim, arith}
 use Rattle.std.proofs.lemmas.Bool.{cases_Bool, cond-false, lt-ltb, le-ltb, ltb-true, false≢true, and_parts, and_right, or_from, or_cases}
+use Rattle.std.proofs.Math.Bool.{and-true}
 use Rattle.std.proofs.ByRecursion.{All-get_or}
 use Rattle.std.specs.List.{flat_map, AllByRecursion, range_with_len}
 use Rattle.phone.specs.declared.area.Area.{Area}
@@ -129,11 +130,7 @@ prunes pic m ms true r (x ∷ l) h =
 hides_past : (pic m : List ℕ) (a : ℕ) → (control (type_of pic m) ≡ true → get_or m 4 0 < a) → hides pic m a ≡ (control (type_of pic m) && inside (area_of pic m) a)
 unfolding hides
 hides_past pic m a h =
-    ⊎_elim (λ t. rw t (let k = lt-ltb _ _ (h t) in rw k (tail (inside (area_of pic m) a)))) (λ f. rw f) (cases_Bool (control (type_of pic m)))
-  where
-    tail : (b : Bool) → (b && true) ≡ b
-    tail true = refl
-    tail false = refl
+    ⊎_elim (λ t. rw t (let k = lt-ltb _ _ (h t) in rw (k, and-true))) (λ f. rw f) (cases_Bool (control (type_of pic m)))
 
 hides_all_past : (pic m l : List ℕ) → (control (type_of pic m) ≡ true → Above (get_or m 4 0) l) → AllByRecursion (λ a. hides pic m a ≡ (control (type_of pic m) && inside (area_of pic m) a)) l
 hides_all_past pic m [] h = tt

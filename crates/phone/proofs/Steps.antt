@@ -1,25 +1,24 @@
 -- One TLV after the other.
-use Rattle.std.proofs.Common.{◌≡◌, ℕ, zero, suc, ◌+◌, ◌<◌, ◌≤◌, Bool, true, false, cond, not, ◌&&◌, eqb, leb, ◌⊎◌, List, [], ◌∷◌, length, get_or, drop, is_ok, Ok, Err, Result, sym, refl, ap, ◌∙◌, subst, inl, inr, ⊎_elim, arith, length-drop}
+use Rattle.std.proofs.Common.{◌≡◌, ℕ, zero, suc, ◌+◌, ◌<◌, ◌≤◌, Bool, true, false, cond, not, ◌&&◌, eqb, leb, ◌⊎◌, List, [], ◌∷◌, length, get_or, take, drop, is_ok, Some, None, Ok, Err, Result, sym, refl, ap, ◌∙◌, subst, inl, inr, ⊎_elim, arith, length-drop}
 use Rattle.std.proofs.lemmas.Bool.{cond-true, cond-false, cond_both, ne_eqb, eq-eqb, eqb-true, eqb-false, leb-true, false≢true}
 use Rattle.air.specs.declared.fault.Fault.{Fault}
 use Rattle.air.specs.declared.fault.Fault.TheVariants.{Layout}
 use Rattle.phone.specs.declared.area.Area.{Area}
-use Rattle.phone.specs.declared.cursor.Cursor.{Cursor}
+use Rattle.phone.specs.declared.layout.Message.{Message}
 use Rattle.phone.specs.declared.layout.Tlv.{Tlv}
 use Rattle.phone.specs.Areas.{inside, outside}
-use Rattle.phone.specs.Cursors.{left}
-use Rattle.phone.specs.Layout.{byte, control, named_in, cleared, sized, tlv, valued, past_length, beyond, Findings, failed, met, onto, going, walks, walk_over, onward}
-use Rattle.phone.proofs.Clashes.{clash}
+use Rattle.phone.specs.Cursors.{Ahead, leaving}
+use Rattle.phone.specs.Layout.{byte, control, named_in, cleared, sized, tlv, valued, past_length, beyond, Findings, failed, met, onto, going, walks, walk_over, message_of, onward}
 
 -- what one TLV that is read says of its value
 
 pub ok_right : (b : Bool) (g : Fault) (r : Result Tlv Fault) (t : Tlv) → cond b (Err g) r ≡ Ok t → (b ≡ false) × (r ≡ Ok t)
-ok_right true g r t h = clash (cc)
+ok_right true g r t h = cc
 ok_right false g r t h = (refl, h)
 
 ok_left : (b : Bool) (u : Tlv) (g : Fault) (t : Tlv) → cond b (Ok u) (Err g) ≡ Ok t → (b ≡ true) × (u ≡ t)
 ok_left true u g t h = (refl, cc)
-ok_left false u g t h = clash (cc)
+ok_left false u g t h = cc
 
 pub ok_either : (b : Bool) (u : Tlv) (r : Result Tlv Fault) (t : Tlv) → cond b (Ok u) r ≡ Ok t → ((b ≡ true) × (u ≡ t)) ⊎ ((b ≡ false) × (r ≡ Ok t))
 ok_either true u r t h = inl (refl, cc)
@@ -61,7 +60,7 @@ null_fits : (pic : List ℕ) (x : ℕ) (l : List ℕ) → eqb (get_or pic x 0) 0
 null_fits pic x l b = record { three = λ c. absurd (false≢true c); enough = omega arith; kind_is = sym (eqb-true _ _ b); then = cond-true _ _ _ b ∙ sym (cond-true _ _ _ b) }
 
 sized_fits : (pic : List ℕ) (x : ℕ) (l : List ℕ) (t : Tlv) → eqb (get_or pic x 0) 0 ≡ false → sized pic x (get_or pic x 0) l ≡ Ok t → Fits pic (x ∷ l) t
-sized_fits pic x [] t z h = clash (cc)
+sized_fits pic x [] t z h = cc
 sized_fits pic x (q ∷ vs) t z h =
     let r = says pic x q vs t h in
     let e = r.enough in
@@ -72,7 +71,7 @@ sized_fits pic x (q ∷ vs) t z h =
     subst (Fits pic (x ∷ q ∷ vs)) r.is u
 
 fits : (pic : List ℕ) (e : ℕ) (l : List ℕ) (t : Tlv) → Ok t ≡ tlv pic e l → Fits pic l t
-fits pic e [] t h = clash (cc)
+fits pic e [] t h = cc
 fits pic e (x ∷ l) t h =
     ⊎_elim (λ p. subst (Fits pic (x ∷ l)) p.1 (null_fits pic x l p.0))
     (λ p. sized_fits pic x l t p.0 (ok_right (eqb (get_or pic x 0) 0xfe) (Layout 13 x) _ t p.1).1)
@@ -145,19 +144,38 @@ answered w v e = sym (ap (λ (z : Findings). z.answer) e)
 pub answer_fails : (pic : List ℕ) (e : ℕ) (l : List ℕ) (f : Fault) → Err f ≡ tlv pic e l → Err f ≡ (walk_over pic e l).answer
 answer_fails pic e l f h = answered (walk_over pic e l) (failed f) (walk_fails pic e l f (sym h))
 
-pub answer_meets : (pic : List ℕ) (e : ℕ) (l : List ℕ) (t : Tlv) → Ok t ≡ tlv pic e l → t.kind ≡ 3 → Ok (record { place = t.place; length = t.length }) ≡ (walk_over pic e l).answer
-answer_meets pic e l t h k = answered (walk_over pic e l) (met t (valued pic l)) (walk_meets pic e l t (sym h) k)
+-- what a TLV that is a message says, and one that is none
+is_message : (t : Tlv) (m : Message) → Some m ≡ message_of t → (t.kind ≡ 3) × (m ≡ record { place = t.place; length = t.length })
+is_message t m h =
+    elim (eqb t.kind 3) as (λ b. eqb t.kind 3 ≡ b → Some m ≡ cond b (Some (record { place = t.place; length = t.length })) None → (t.kind ≡ 3) × (m ≡ record { place = t.place; length = t.length }))
+    [ true ↦ λ e k. (eqb-true _ _ e, cc) | false ↦ λ e k. cc ] refl h
 
--- a cursor that was moved past a TLV: less is left, and the walk from there on is the rest of the walk
-pub record Moved (pic : List ℕ) (s t : Cursor) (v : Tlv) : Type 0 where
-  pub fewer : length (left t) < length (left s)
-  pub finds : walk_over pic s.end (left s) ≡ onto v (walk_over pic t.end (left t))
+no_message : (t : Tlv) → None ≡ message_of t → t.kind ≡ 3 → ⊥
+no_message t h k = let e = h ∙ cond-true _ _ _ (eq-eqb _ _ k) in cc
 
-pub moving : (pic : List ℕ) (s t : Cursor) (v : Tlv) → Ok v ≡ tlv pic s.end (left s) → left t ≡ onward pic (left s) → t.end ≡ s.end → (v.kind ≡ 3 → ⊥) → Moved pic s t v
-moving pic s t v h a e k =
-    let o : left t ≡ beyond pic (left s) = a ∙ onward_passed pic (left s) v (fits pic s.end (left s) v h) k in
-    let i : is_ok (tlv pic s.end (left s)) ≡ true = sym (ap is_ok h) in
-    let n = shorter pic s.end (left s) i in
-    let m = ap length o in
-    let g : walk_over pic s.end (beyond pic (left s)) ≡ walk_over pic t.end (left t) = ap (walk_over pic s.end) (sym o) ∙ ap (λ z. walk_over pic z (left t)) (sym e) in
-    record { fewer = omega arith; finds = walk_passes pic s.end (left s) v (sym h) k ∙ ap (onto v) g }
+-- nothing but the answer is left
+abbrev pub ended : List ℕ → Result Message Fault → Findings
+ended v r = record { tlvs = []; value = v; answer = r }
+
+pub walk_ends : (pic : List ℕ) (e : ℕ) (l : List ℕ) (t : Tlv) (m : Message) → Ok t ≡ tlv pic e l → Some m ≡ message_of t → walk_over pic e l ≡ onto t (ended (take t.length (valued pic l)) (Ok m))
+walk_ends pic e l t m h k =
+    let i = is_message t m k in
+    walk_meets pic e l t (sym h) i.0 ∙ ap (λ z. onto t (ended (take t.length (valued pic l)) (Ok z))) (sym i.1)
+
+pub answer_meets : (pic : List ℕ) (e : ℕ) (l : List ℕ) (t : Tlv) (m : Message) → Ok t ≡ tlv pic e l → Some m ≡ message_of t → Ok m ≡ (walk_over pic e l).answer
+answer_meets pic e l t m h k = answered (walk_over pic e l) _ (walk_ends pic e l t m h k)
+
+-- what is ahead was moved past a TLV: less is left, and the walk from there on is the rest of the walk
+pub record Moved (s t : Ahead) (v : Tlv) : Type 0 where
+  pub fewer : length t.left < length s.left
+  pub finds : walk_over s.picture s.end s.left ≡ onto v (walk_over t.picture t.end t.left)
+
+moving_on : (s : Ahead) (v : Tlv) → Ok v ≡ tlv s.picture s.end s.left → (v.kind ≡ 3 → ⊥) → Moved s (leaving s (onward s.picture s.left)) v
+moving_on s v h k =
+    let pic : List ℕ = s.picture in
+    let o = onward_passed pic s.left v (fits pic s.end s.left v h) k in
+    let n = shorter pic s.end s.left (sym (ap is_ok h)) in
+    rw o (record { fewer = n; finds = walk_passes pic s.end s.left v (sym h) k })
+
+pub moving : (s t : Ahead) (v : Tlv) → Ok v ≡ tlv s.picture s.end s.left → t ≡ leaving s (onward s.picture s.left) → None ≡ message_of v → Moved s t v
+moving s t v h a k = subst (λ z. Moved s z v) (sym a) (moving_on s v h (no_message v k))

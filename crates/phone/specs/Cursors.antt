@@ -1,37 +1,33 @@
--- A cursor stands for the list of the addresses that a walk has still to take.
-use Rattle.std.specs.Prelude.{◌≡◌, ℕ, zero, suc, ◌-◌, ◌<◌, ◌≤◌, Bool, false, cond, List, [], ◌∷◌, replicate, Some, None, Option, slice_index_or}
-use Rattle.phone.specs.declared.cursor.Cursor.{Cursor}
+-- A cursor stands for what a walk has ahead of it.
+use Rattle.std.specs.Prelude.{ℕ, ◌-◌, Bool, false, not, List, [], ◌∷◌, replicate, Some, None, Option, slice_index, slice_index_or}
+use Rattle.std.specs.List.{filter, range_with_len}
+
+-- the picture, the end of its area, and the addresses that are still to be taken
+pub record Ahead : Type 0 where
+  pub picture : List ℕ
+  pub end : ℕ
+  pub left : List ℕ
 
 -- the unskipped among n addresses from `at` on
 unfoldable pub free : List Bool → ℕ → ℕ → List ℕ
-free s at zero = []
-free s at (suc n) = cond (slice_index_or s at false) (free s (suc at) n) (at ∷ free s (suc at) n)
+free s at n = filter (λ a. not (slice_index_or s a false)) (range_with_len at n)
 
-abbrev pub left : Cursor → List ℕ
-left c = free c.skipped c.next (c.end - c.next)
-
--- a cursor stands at or before its area's end, and the area ends in the picture
-pub record Whole (c : Cursor) : Type 0 where
-  pub within : c.next ≤ c.end
-  pub small : c.end ≤ 256
-
--- what a move keeps
-pub record Kept (c d : Cursor) : Type 0 where
-  pub whole : Whole d
-  pub same_end : d.end ≡ c.end
+-- what a cursor's fields stand for: its addresses are the unskipped from `next` up to `end`
+abbrev pub ahead : List ℕ → ℕ → ℕ → List Bool → Ahead
+ahead pic next end s = record { picture = pic; end = end; left = free s next (end - next) }
 
 -- the area's first address is 16, and nothing is skipped at first
-unfoldable pub fresh : ℕ → Cursor
-fresh e = record { next = 16; end = e; skipped = replicate 256 false }
+unfoldable pub fresh : List ℕ → ℕ → Ahead
+fresh pic e = ahead pic 16 e (replicate 256 false)
 
-abbrev pub first : List ℕ → Option ℕ
-first [] = None
-first (a ∷ l) = Some a
+-- the same with other addresses left
+abbrev pub leaving : Ahead → List ℕ → Ahead
+leaving a l = record { picture = a.picture; end = a.end; left = l }
 
--- an address that is taken lies before e
-abbrev pub Before : ℕ → Option ℕ → Type 0
-Before e None = Unit {0}
-Before e (Some a) = a < e
+-- the first address and its byte
+abbrev pub first : List ℕ → List ℕ → Option (ℕ × ℕ)
+first pic [] = None
+first pic (a ∷ l) = Some (a, slice_index pic a)
 
 abbrev pub rest : List ℕ → List ℕ
 rest [] = []

@@ -5,11 +5,10 @@ use Rattle.air.specs.declared.fault.Fault.{Fault}
 use Rattle.air.specs.declared.fault.Fault.TheVariants.{Call, Layout}
 use Rattle.air.specs.Faults.{address_of}
 use Rattle.phone.specs.declared.area.Area.{Area}
-use Rattle.phone.specs.declared.cursor.Cursor.{Cursor}
 use Rattle.phone.specs.declared.layout.Tlv.{Tlv}
 use Rattle.phone.specs.declared.layout.Message.{Message}
 use Rattle.phone.specs.Areas.{lock_control, memory_control, named, outside}
-use Rattle.phone.specs.Cursors.{fresh, rest}
+use Rattle.phone.specs.Cursors.{Ahead, fresh, rest}
 
 -- types of TLVs
 abbrev pub null : ℕ
@@ -124,9 +123,13 @@ walked pic = by_container pic failed (walk_over pic (area_end pic) (area pic))
 
 -- What the steps of the code give.
 
+-- the message that a TLV is, if it is one
+abbrev pub message_of : Tlv → Option Message
+message_of t = cond (t.kind == message) (Some (record { place = t.place; length = t.length })) None
+
 -- a cursor at the start of the area
-abbrev pub opened : List ℕ → Result Cursor Fault
-opened pic = by_container pic Err (Ok (fresh (area_end pic)))
+abbrev pub opened : List ℕ → Result Ahead Fault
+opened pic = by_container pic Err (Ok (fresh pic (area_end pic)))
 
 -- the area that the next three bytes name, if there are so many
 abbrev pub three : List ℕ → ℕ → List ℕ → Option Area

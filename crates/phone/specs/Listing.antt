@@ -1,5 +1,5 @@
 -- The text of a listing.
-use Rattle.std.specs.Prelude.{ℕ, ◌-◌, cond, List, [], ◌∷◌, ◌++◌, length, replicate, Ok, Err, decimal, Result, ◌==◌, nat_lt}
+use Rattle.std.specs.Prelude.{ℕ, ◌-◌, ◌<◌, cond, List, [], ◌∷◌, ◌++◌, length, replicate, Ok, Err, decimal, Result, ◌==◌, nat_lt}
 use Rattle.std.specs.List.{flat_map}
 use Rattle.air.specs.declared.fault.Fault.{Fault}
 use Rattle.air.specs.declared.fault.Fault.TheVariants.{Call}
@@ -24,6 +24,11 @@ tlv_line t = line t.at t.kind t.length
 abbrev pub last_line : Result Message Fault → List ℕ
 last_line (Ok m) = line 0 m.place m.length
 last_line (Err f) = line (number_of f) (address_of f) 0
+
+-- an answer whose numbers have no more than four digits
+abbrev pub IsNear : Result Message Fault → Type 0
+IsNear (Ok m) = (m.place < 10000) × (m.length < 10000)
+IsNear (Err f) = (number_of f < 10000) × (address_of f < 10000)
 
 -- a line for each TLV that the walk finishes, and the last line
 unfoldable pub text : Findings → List ℕ

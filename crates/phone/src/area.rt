@@ -1,12 +1,14 @@
 // Areas that control TLVs name, of lock bits or of reserved bytes: a walk skips them.
-ghost use Rattle.std.specs.Prelude.{◌≡◌, ◌^◌, ◌<◌, ◌≤◌};
-ghost use Rattle.phone.specs.Areas.{inside, starts, full, lock_area, reserved_area, named};
+ghost use Rattle.std.specs.Prelude.{◌≡◌, ◌^◌, ◌<◌, ◌≤◌, min};
+ghost use Rattle.phone.specs.Areas.{starts, full, lock_area, reserved_area, named};
+
+use std::ops::Range;
 
 pub(crate) const LOCK_CONTROL: u8 = 0x01;
 
 pub(crate) const MEMORY_CONTROL: u8 = 0x02;
 
-// Addresses from `start` up to `stop`, without `stop`.
+// Addresses from `start` up to `stop`, without `stop`. A type of its own and no `Range`, since the layout rules in specs/ speak of areas.
 #[derive(Clone, Copy)]
 pub(crate) struct Area {
     start: u32,
@@ -65,9 +67,11 @@ pub(crate) fn named_area(kind: u8, position: u8, size: u8, control: u8) -> Area
 }
 
 impl Area {
-    pub(crate) fn holds(self, address: u16) -> bool
-        ensures value { result ≡ inside self address }
+    // Its addresses below `end`.
+    pub(crate) fn below(self, end: u32) -> Range<usize>
+        ensures value { (result.start ≡ min self.start (min self.stop end)) × (result.end ≡ min self.stop end) }
     {
-        self.start <= u32::from(address) && u32::from(address) < self.stop
+        let stop = self.stop.min(end);
+        self.start.min(stop) as usize..stop as usize
     }
 }

@@ -1,25 +1,44 @@
-// How far a walk has come in its area, and which addresses it skips.
-ghost use Rattle.std.specs.Prelude.{◌≡◌, length, drop};
+// How far a walk has come in the area of its picture, and which addresses it skips.
+ghost use Rattle.std.specs.Prelude.{◌≡◌, ◌≤◌, ◌<◌, length, drop, IfSome};
 ghost use Rattle.phone.specs.Areas.{outside};
-ghost use Rattle.phone.specs.Cursors.{Before, Whole, Kept, left, first, rest, fresh};
+ghost use Rattle.phone.specs.Cursors.{fresh, leaving, first, rest};
 
 use crate::area::Area;
+use std::marker::Model;
 
 pub(crate) const AREA_START: u16 = 16;
 
+// The bytes of a box's memory.
+pub(crate) type Picture = [u8; 256];
+
 #[derive(Drop)]
-pub(crate) struct Cursor {
+pub(crate) struct Cursor<'a> {
+    picture: &'a Picture,
     next: u16,
     end: u16,
     skipped: [bool; 256],
 }
 
-impl Cursor {
+// A clause sees what is ahead: the picture, its area's end, and the addresses that are still to be taken.
+impl<'a> Model for Cursor<'a> {
+    ghost use Rattle.std.specs.Prelude.{◌≤◌};
+    ghost use Rattle.phone.specs.Cursors.{Ahead, ahead};
+
+    ghost Value = { Ahead };
+
+    ghost view = { λ c. ahead c.picture.now c.next c.end c.skipped };
+
+    ghost invariant = { λ c. (c.next ≤ c.end) × (c.end ≤ 256) };
+}
+
+impl<'a> Cursor<'a> {
     // A cursor at the start of an area that ends before `end`.
-    pub(crate) fn new(end: u16) -> Cursor
-        ensures value { result ≡ fresh end }
+    pub(crate) fn new(picture: &'a Picture, end: u16) -> Cursor<'a>
+        requires { (16 ≤ end) × (end ≤ 256) }
+        ensures value { result ≡ fresh picture.now end }
     {
         Cursor {
+            picture,
             next: AREA_START,
             end,
             skipped: [false; 256],
@@ -29,47 +48,41 @@ impl Cursor {
     // The first address past the area.
     pub(crate) fn area_end(&self) -> u16
         ensures value { result ≡ self.now.end }
+        ensures bound { result ≤ 256 }
     {
         self.end
     }
 
-    // Takes the next address that is not skipped, if the area has one left.
-    pub(crate) fn take(&mut self) -> Option<u16>
-        requires { Whole self.old }
-        ensures value { result ≡ first (left self.old) }
-        ensures bound { Before self.old.end result }
-        ensures after { left self.new ≡ rest (left self.old) }
-        ensures kept { Kept self.old self.new }
+    // Takes the next address that is not skipped, if the area has one left, with its byte. No `Iterator`, since a walk counts and skips between two takes.
+    pub(crate) fn take(&mut self) -> Option<(u16, u8)>
+        ensures value { result ≡ first self.old.picture self.old.left }
+        ensures bound { IfSome result (λ t. t.0 < 256) }
+        ensures after { self.new ≡ leaving self.old (rest self.old.left) }
     {
-        for at in self.next..self.end {
-            if !self.skipped[at as usize] {
-                self.next = at + 1;
-                return Some(at);
-            }
-        }
-        self.next = self.end;
-        None
+        let Some(at) = (self.next..self.end).find(|at| !self.skipped[*at as usize]) else {
+            self.next = self.end;
+            return None;
+        };
+        self.next = at + 1;
+        Some((at, self.picture[at as usize]))
     }
 
     // Takes n addresses, or all that are left.
     pub(crate) fn pass(&mut self, n: u8)
-        requires { Whole self.old }
-        ensures after { left self.new ≡ drop n (left self.old) }
-        ensures kept { Kept self.old self.new }
+        ensures after { self.new ≡ leaving self.old (drop n self.old.left) }
     {
-        for _i in 0..n {
-            let _ = self.take();
+        for _ in 0..n {
+            self.take();
         }
     }
 
-    // How many addresses are left.
+    // How many addresses are left. A `for` and no chain: with `filter` and `count` a walk over many TLVs takes three times as long.
     pub(crate) fn count(&self) -> u16
-        requires { Whole self.now }
-        ensures value { result ≡ length (left self.now) }
+        ensures value { result ≡ length self.now.left }
     {
         let mut n = 0;
-        for at in self.next..self.end {
-            if !self.skipped[at as usize] {
+        for skipped in &self.skipped[self.next as usize..self.end as usize] {
+            if !*skipped {
                 n += 1;
             }
         }
@@ -78,14 +91,8 @@ impl Cursor {
 
     // Skips what lies in the area and is not yet reached.
     pub(crate) fn skip(&mut self, area: Area)
-        requires { Whole self.old }
-        ensures after { left self.new ≡ outside area (left self.old) }
-        ensures kept { Kept self.old self.new }
+        ensures after { self.new ≡ leaving self.old (outside area self.old.left) }
     {
-        for at in self.next..self.end {
-            if area.holds(at) {
-                self.skipped[at as usize] = true;
-            }
-        }
+        self.skipped[area.below(256)].fill(true);
     }
 }

@@ -1,16 +1,17 @@
 // The layout of a picture: TLVs (type, length, value) in its data area, and the message among them.
 ghost use Rattle.std.specs.Prelude.{◌≡◌, ◌≤◌, true, length, drop, is_some, is_ok};
-ghost use Rattle.phone.specs.Cursors.{Whole, Kept, left, rest};
-ghost use Rattle.phone.specs.Layout.{Bounded, control, opened, three, cleared, sized, tlv, valued, onward, walked};
+ghost use Rattle.phone.specs.Cursors.{leaving, rest};
+ghost use Rattle.phone.specs.Layout.{Bounded, control, message_of, opened, three, cleared, sized, tlv, valued, onward, walked};
 ghost use Rattle.phone.specs.Tiling.{ReadOff};
 
 use crate::area::{Area, LOCK_CONTROL, MEMORY_CONTROL, named_area};
-use crate::cursor::{AREA_START, Cursor};
+use crate::cursor::{AREA_START, Cursor, Picture};
+use crate::faults::{NO_CONTAINER, WRONG_SIZE, cut_short, long_length, no_message, not_three};
 use air::fault::Fault;
 
 const NULL: u8 = 0x00;
 
-pub(crate) const NDEF_MESSAGE: u8 = 0x03;
+const NDEF_MESSAGE: u8 = 0x03;
 
 const TERMINATOR: u8 = 0xfe;
 
@@ -22,6 +23,7 @@ pub struct Message {
 }
 
 // One TLV: the address of its type byte, its type and length, and the address after its length byte (of a null, after its type byte).
+// The type is the byte itself, since any byte is a type and is listed as it stands.
 #[derive(Clone, Copy)]
 pub(crate) struct Tlv {
     pub(crate) at: u16,
@@ -30,143 +32,119 @@ pub(crate) struct Tlv {
     pub(crate) place: u16,
 }
 
+impl Tlv {
+    // The message that it is, if it is one.
+    pub(crate) fn message(self) -> Option<Message>
+        ensures value { result ≡ message_of self }
+    {
+        (self.kind == NDEF_MESSAGE).then_some(Message {
+            place: self.place,
+            length: self.length,
+        })
+    }
+}
+
+// Lock control or memory control.
+fn is_control(kind: u8) -> bool
+    ensures value { result ≡ control kind }
+{
+    matches!(kind, LOCK_CONTROL | MEMORY_CONTROL)
+}
+
 // A cursor at the start of the picture's area.
-pub(crate) fn open(picture: &[u8]) -> Result<Cursor, Fault>
+pub(crate) fn open(picture: &Picture) -> Result<Cursor<'_>, Fault>
     ensures value { result ≡ opened picture.now }
 {
-    if picture.len() != 256 {
-        return Err(Fault::Call {
-            number: 6,
-            address: 0,
-        });
-    }
     let end = AREA_START + 8 * u16::from(picture[14]);
     if picture[12] != 0xe1 || picture[13] >> 4 != 1 || end > 256 {
-        return Err(Fault::Layout {
-            number: 9,
-            address: 12,
-        });
+        return Err(NO_CONTAINER);
     }
-    Ok(Cursor::new(end))
+    Ok(Cursor::new(picture, end))
 }
 
-// Takes the three bytes of a control TLV, if there are so many left: the area that it names.
-fn control_area(cursor: &mut Cursor, picture: &[u8], kind: u8) -> Option<Area>
-    requires { (Whole cursor.old) × (length picture.now ≡ 256) }
-    ensures value { result ≡ three picture.now kind (left cursor.old) }
-    ensures after { is_some result ≡ true → left cursor.new ≡ drop 3 (left cursor.old) }
-    ensures kept { Kept cursor.old cursor.new }
-{
-    let position = cursor.take()?;
-    let size = cursor.take()?;
-    let control = cursor.take()?;
-    Some(named_area(
-        kind,
-        picture[position as usize],
-        picture[size as usize],
-        picture[control as usize],
-    ))
-}
+impl Cursor<'_> {
+    // Takes the three bytes of a control TLV, if there are so many left: the area that it names.
+    fn control_area(&mut self, kind: u8) -> Option<Area>
+        ensures value { result ≡ three self.old.picture kind self.old.left }
+        ensures after { is_some result ≡ true → self.new ≡ leaving self.old (drop 3 self.old.left) }
+    {
+        let (_, position) = self.take()?;
+        let (_, size) = self.take()?;
+        let (_, control) = self.take()?;
+        Some(named_area(kind, position, size, control))
+    }
 
-// Takes the value of a TLV, and skips the area that a control TLV names.
-fn pass_value(cursor: &mut Cursor, picture: &[u8], tlv: Tlv)
-    requires { (Whole cursor.old) × ((length picture.now ≡ 256) × (((control tlv.kind ≡ true → tlv.length ≡ 3)) × (tlv.length ≤ length (left cursor.old)))) }
-    ensures after { left cursor.new ≡ cleared picture.now tlv.kind tlv.length (left cursor.old) }
-    ensures kept { Kept cursor.old cursor.new }
-{
-    if tlv.kind != LOCK_CONTROL && tlv.kind != MEMORY_CONTROL {
-        cursor.pass(tlv.length);
-    } else if let Some(area) = control_area(cursor, picture, tlv.kind) {
-        cursor.skip(area);
+    // Takes the value of a TLV, and skips the area that a control TLV names.
+    fn pass_value(&mut self, tlv: Tlv)
+        requires { ((control tlv.kind ≡ true → tlv.length ≡ 3)) × (tlv.length ≤ length self.old.left) }
+        ensures after { self.new ≡ leaving self.old (cleared self.old.picture tlv.kind tlv.length self.old.left) }
+    {
+        if !is_control(tlv.kind) {
+            self.pass(tlv.length);
+        } else if let Some(area) = self.control_area(tlv.kind) {
+            self.skip(area);
+        }
     }
-}
 
-// The rest of a TLV's head, from its length byte on.
-fn sized_head(cursor: &mut Cursor, picture: &[u8], at: u16, kind: u8) -> Result<Tlv, Fault>
-    requires { (Whole cursor.old) × ((length picture.now ≡ 256) × (at ≤ 256)) }
-    ensures value { result ≡ sized picture.now at kind (left cursor.old) }
-    ensures bound { Bounded result }
-    ensures after { is_ok result ≡ true → left cursor.new ≡ rest (left cursor.old) }
-    ensures kept { Kept cursor.old cursor.new }
-{
-    let Some(length_at) = cursor.take() else {
-        return Err(Fault::Layout {
-            number: 11,
-            address: at,
-        });
-    };
-    let length = picture[length_at as usize];
-    if length == 0xff {
-        return Err(Fault::Layout {
-            number: 12,
-            address: at,
-        });
-    }
-    if (kind == LOCK_CONTROL || kind == MEMORY_CONTROL) && length != 3 {
-        return Err(Fault::Layout {
-            number: 10,
-            address: at,
-        });
-    }
-    if cursor.count() < u16::from(length) {
-        return Err(Fault::Layout {
-            number: 11,
-            address: at,
-        });
-    }
-    Ok(Tlv {
-        at,
-        kind,
-        length,
-        place: length_at + 1,
-    })
-}
-
-// The type and length of the next TLV, whose value is then the next to be taken.
-fn head(cursor: &mut Cursor, picture: &[u8]) -> Result<Tlv, Fault>
-    requires { (Whole cursor.old) × (length picture.now ≡ 256) }
-    ensures value { result ≡ tlv picture.now cursor.old.end (left cursor.old) }
-    ensures bound { Bounded result }
-    ensures after { is_ok result ≡ true → left cursor.new ≡ valued picture.now (left cursor.old) }
-    ensures kept { Kept cursor.old cursor.new }
-{
-    let Some(at) = cursor.take() else {
-        return Err(Fault::Layout {
-            number: 13,
-            address: cursor.area_end(),
-        });
-    };
-    let kind = picture[at as usize];
-    if kind == NULL {
-        return Ok(Tlv {
+    // The rest of a TLV's head, from its length byte on.
+    fn sized_head(&mut self, at: u16, kind: u8) -> Result<Tlv, Fault>
+        requires { at ≤ 256 }
+        ensures value { result ≡ sized self.old.picture at kind self.old.left }
+        ensures bound { Bounded result }
+        ensures after { is_ok result ≡ true → self.new ≡ leaving self.old (rest self.old.left) }
+    {
+        let Some((length_at, length)) = self.take() else {
+            return Err(cut_short(at));
+        };
+        if length == 0xff {
+            return Err(long_length(at));
+        }
+        if is_control(kind) && length != 3 {
+            return Err(not_three(at));
+        }
+        if self.count() < u16::from(length) {
+            return Err(cut_short(at));
+        }
+        Ok(Tlv {
             at,
             kind,
-            length: 0,
-            place: at + 1,
-        });
+            length,
+            place: length_at + 1,
+        })
     }
-    if kind == TERMINATOR {
-        return Err(Fault::Layout {
-            number: 13,
-            address: at,
-        });
-    }
-    sized_head(cursor, picture, at, kind)
-}
 
-// The next TLV, passed over whole; of a message the value is still to be taken.
-pub(crate) fn next_tlv(cursor: &mut Cursor, picture: &[u8]) -> Result<Tlv, Fault>
-    requires { (Whole cursor.old) × (length picture.now ≡ 256) }
-    ensures value { result ≡ tlv picture.now cursor.old.end (left cursor.old) }
-    ensures bound { Bounded result }
-    ensures after { is_ok result ≡ true → left cursor.new ≡ onward picture.now (left cursor.old) }
-    ensures kept { Kept cursor.old cursor.new }
-{
-    let tlv = head(cursor, picture)?;
-    if tlv.kind != NDEF_MESSAGE {
-        pass_value(cursor, picture, tlv);
+    // The type and length of the next TLV, whose value is then the next to be taken.
+    fn head(&mut self) -> Result<Tlv, Fault>
+        ensures value { result ≡ tlv self.old.picture self.old.end self.old.left }
+        ensures bound { Bounded result }
+        ensures after { is_ok result ≡ true → self.new ≡ leaving self.old (valued self.old.picture self.old.left) }
+    {
+        match self.take() {
+            Some((at, NULL)) => Ok(Tlv {
+                at,
+                kind: NULL,
+                length: 0,
+                place: at + 1,
+            }),
+            Some((at, TERMINATOR)) => Err(no_message(at)),
+            Some((at, kind)) => self.sized_head(at, kind),
+            None => Err(no_message(self.area_end())),
+        }
     }
-    Ok(tlv)
+
+    // The next TLV, passed over whole; of a message the value is still to be taken.
+    // No `Iterator`, since a walk never just ends: past the last TLV comes a fault.
+    pub(crate) fn next_tlv(&mut self) -> Result<Tlv, Fault>
+        ensures value { result ≡ tlv self.old.picture self.old.end self.old.left }
+        ensures bound { Bounded result }
+        ensures after { is_ok result ≡ true → self.new ≡ leaving self.old (onward self.old.picture self.old.left) }
+    {
+        let tlv = self.head()?;
+        if tlv.kind != NDEF_MESSAGE {
+            self.pass_value(tlv);
+        }
+        Ok(tlv)
+    }
 }
 
 // Where the message of a picture stands, or the first thing that went wrong.
@@ -174,14 +152,13 @@ pub fn walk(picture: &[u8]) -> Result<Message, Fault>
     ensures value { result ≡ (walked picture.now).answer }
     ensures laid { ReadOff picture.now result }
 {
+    let Ok(picture) = <&Picture>::try_from(picture) else {
+        return Err(WRONG_SIZE);
+    };
     let mut cursor = open(picture)?;
     loop {
-        let tlv = next_tlv(&mut cursor, picture)?;
-        if tlv.kind == NDEF_MESSAGE {
-            return Ok(Message {
-                place: tlv.place,
-                length: tlv.length,
-            });
+        if let Some(message) = cursor.next_tlv()?.message() {
+            return Ok(message);
         }
     }
 }

@@ -4,5 +4,6 @@
 pub mod app;
 mod area;
 mod cursor;
+mod faults;
 pub mod layout;
 pub mod listing;

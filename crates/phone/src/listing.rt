@@ -1,19 +1,20 @@
 // The listing of a picture: a line for each TLV that a walk finishes, and a last line with its answer.
 ghost use Rattle.std.specs.Prelude.{◌≡◌, ◌+◌, ◌*◌, ◌/◌, ◌%◌, ◌<◌, ◌≤◌, true, length, is_ok, IfOk, if◌then◌else◌, nat_lt};
 ghost use Rattle.phone.specs.Buffers.{over};
-ghost use Rattle.phone.specs.Cursors.{Whole, left};
 ghost use Rattle.phone.specs.Layout.{walk_over, walked};
-ghost use Rattle.phone.specs.Listing.{column, line, text, listed, listed_into};
+ghost use Rattle.phone.specs.Listing.{IsNear, column, line, tlv_line, last_line, text, listed, listed_into};
 ghost use Rattle.phone.specs.Tiling.{LaidOut};
 
-use crate::cursor::Cursor;
-use crate::layout::{NDEF_MESSAGE, next_tlv, open};
+use crate::app::Report;
+use crate::cursor::{Cursor, Picture};
+use crate::faults::{SMALL_BUFFER, WRONG_SIZE};
+use crate::layout::{Message, Tlv, open};
 use air::fault::Fault;
 
-// The bytes of the longest listing: 240 null TLVs and the last line.
-pub const LONGEST: usize = 3133;
-
 const LINE: usize = 13;
+
+// The bytes of the longest listing: 240 null TLVs and the last line.
+pub const LONGEST: usize = 241 * LINE;
 
 // The digit of n at a unit, or a space in front of the number.
 fn digit_at(n: u16, unit: u16) -> u8
@@ -27,68 +28,94 @@ fn digit_at(n: u16, unit: u16) -> u8
     }
 }
 
-// Puts a number into four columns, to the right.
-fn put_column(out: &mut [u8], at: usize, n: u16)
-    requires { (n < 10000) × (at + 4 ≤ length out.old) }
-    ensures after { out.new ≡ over out.old at (column n) }
+// A number in four columns, to the right. No contract says that a `write!` into fixed memory succeeds, so each digit is taken by hand.
+fn column(n: u16) -> [u8; 4]
+    requires { n < 10000 }
+    ensures value { result ≡ column n }
 {
-    out[at] = digit_at(n, 1000);
-    out[at + 1] = digit_at(n, 100);
-    out[at + 2] = digit_at(n, 10);
-    out[at + 3] = b'0' + (n % 10) as u8;
+    [
+        digit_at(n, 1000),
+        digit_at(n, 100),
+        digit_at(n, 10),
+        b'0' + (n % 10) as u8,
+    ]
 }
 
-// Puts a line of three numbers.
-fn put_line(out: &mut [u8], at: usize, a: u16, b: u16, c: u16)
-    requires { (a < 10000) × ((b < 10000) × ((c < 10000) × (at + 13 ≤ length out.old))) }
-    ensures after { out.new ≡ over out.old at (line a b c) }
+// A line of three numbers.
+fn line(a: u16, b: u16, c: u16) -> [u8; LINE]
+    requires { (a < 10000) × ((b < 10000) × (c < 10000)) }
+    ensures value { result ≡ line a b c }
 {
-    put_column(out, at, a);
-    put_column(out, at + 4, b);
-    put_column(out, at + 8, c);
-    out[at + 12] = b'\n';
+    let columns = [column(a), column(b), column(c)];
+    let mut line = [b'\n'; LINE];
+    line[..12].copy_from_slice(columns.as_flattened());
+    line
+}
+
+// The line of a TLV.
+fn tlv_line(tlv: Tlv) -> [u8; LINE]
+    requires { tlv.at < 10000 }
+    ensures value { result ≡ tlv_line tlv }
+{
+    line(tlv.at, u16::from(tlv.kind), u16::from(tlv.length))
+}
+
+// The line of a walk's answer.
+fn last_line(answer: Result<Message, Fault>) -> [u8; LINE]
+    requires { IsNear answer }
+    ensures value { result ≡ last_line answer }
+{
+    let Report {
+        number,
+        place,
+        length,
+    } = Report::from(answer);
+    line(number, place, length)
+}
+
+// Puts a line at a place of a buffer: the place after it.
+fn put_line(out: &mut [u8], at: usize, line: &[u8; LINE]) -> usize
+    requires { at + 13 ≤ length out.old }
+    ensures value { result ≡ at + length line.now }
+    ensures bound { result ≡ at + 13 }
+    ensures after { out.new ≡ over out.old at line.now }
+{
+    out[at..at + LINE].copy_from_slice(line);
+    at + LINE
 }
 
 // Puts the lines of a walk from the cursor on: the number of bytes put.
-fn put_walk(out: &mut [u8], mut cursor: Cursor, picture: &[u8]) -> usize
-    requires { (Whole cursor) × ((length picture.now ≡ 256) × (13 * (length (left cursor) + 1) ≤ length out.old)) }
-    ensures value { result ≡ length (text (walk_over picture.now cursor.end (left cursor))) }
-    ensures bound { result ≤ 13 * (length (left cursor) + 1) }
-    ensures after { out.new ≡ over out.old 0 (text (walk_over picture.now cursor.end (left cursor))) }
+fn put_walk(out: &mut [u8], mut cursor: Cursor) -> usize
+    requires { 13 * (length cursor.left + 1) ≤ length out.old }
+    ensures value { result ≡ length (text (walk_over cursor.entry.picture cursor.entry.end cursor.entry.left)) }
+    ensures bound { result ≤ 13 * (length cursor.entry.left + 1) }
+    ensures after { out.new ≡ over out.old 0 (text (walk_over cursor.entry.picture cursor.entry.end cursor.entry.left)) }
 {
     let mut at = 0;
     loop {
-        match next_tlv(&mut cursor, picture) {
+        match cursor.next_tlv() {
             Ok(tlv) => {
-                put_line(out, at, tlv.at, u16::from(tlv.kind), u16::from(tlv.length));
-                at += LINE;
-                if tlv.kind == NDEF_MESSAGE {
-                    put_line(out, at, 0, tlv.place, u16::from(tlv.length));
-                    return at + LINE;
+                at = put_line(out, at, &tlv_line(tlv));
+                if let Some(message) = tlv.message() {
+                    return put_line(out, at, &last_line(Ok(message)));
                 }
             }
-            Err(fault) => {
-                put_line(out, at, u16::from(fault.number()), fault.address(), 0);
-                return at + LINE;
-            }
+            Err(fault) => return put_line(out, at, &last_line(Err(fault))),
         }
     }
 }
 
 // Puts the listing of a picture into a buffer that is large enough: the number of bytes put.
-fn put_listing(out: &mut [u8], picture: &[u8]) -> usize
-    requires { (length picture.now ≡ 256) × (3133 ≤ length out.old) }
+fn put_listing(out: &mut [u8], picture: &Picture) -> usize
+    requires { 3133 ≤ length out.old }
     ensures value { result ≡ length (text (walked picture.now)) }
     ensures bound { result ≤ 3133 }
     ensures after { out.new ≡ over out.old 0 (text (walked picture.now)) }
     ensures laid { LaidOut picture.now (walked picture.now) }
 {
     match open(picture) {
-        Ok(cursor) => put_walk(out, cursor, picture),
-        Err(fault) => {
-            put_line(out, 0, u16::from(fault.number()), fault.address(), 0);
-            LINE
-        }
+        Ok(cursor) => put_walk(out, cursor),
+        Err(fault) => put_line(out, 0, &last_line(Err(fault))),
     }
 }
 
@@ -99,17 +126,11 @@ pub fn list(picture: &[u8], out: &mut [u8]) -> Result<usize, Fault>
     ensures after { out.new ≡ listed_into picture.now out.old }
     ensures laid { is_ok result ≡ true → LaidOut picture.now (walked picture.now) }
 {
-    if picture.len() != 256 {
-        return Err(Fault::Call {
-            number: 6,
-            address: 0,
-        });
-    }
+    let Ok(picture) = <&Picture>::try_from(picture) else {
+        return Err(WRONG_SIZE);
+    };
     if out.len() < LONGEST {
-        return Err(Fault::Call {
-            number: 7,
-            address: 0,
-        });
+        return Err(SMALL_BUFFER);
     }
     Ok(put_listing(out, picture))
 }

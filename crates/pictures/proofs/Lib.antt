@@ -1,2 +1,2 @@
--- a picture that is filled from its front
+-- a picture whose front is filled in
 pub mod Padding

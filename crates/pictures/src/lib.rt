@@ -12,9 +12,8 @@ fn padded_picture(bytes: &[u8]) -> [u8; 256]
     ensures value { result ≡ padded bytes.now }
 {
     let mut picture = [0; 256];
-    for i in 0..bytes.len().min(256) {
-        picture[i] = bytes[i];
-    }
+    let n = bytes.len().min(256);
+    picture[..n].copy_from_slice(&bytes[..n]);
     picture
 }
 

@@ -1,21 +1,19 @@
-use Rattle.std.proofs.Common.{◌<◌, length, ap, arith}
-use Rattle.phone.proofs.Addresses.{free_none, free_past, free-take}
+use Rattle.std.proofs.Common.{◌-◌, Bool, List, not, length, take, drop, sym, ap, ◌∙◌, arith}
+use Rattle.std.proofs.lemmas.List.{take_all}
+use Rattle.std.specs.List.{count_by}
+use Rattle.phone.specs.Cursors.{Ahead}
+use Rattle.phone.proofs.Addresses.{length-free}
 use Rattle.phone.proofs.cursor.Cursor.count.Goals as goal
-use Rattle.phone.proofs.cursor.Cursor.count.Goals.{then-not-self-at, else-not-self-at}
-
-pub loop-at-preserved : goal.loop-at-preserved
-loop-at-preserved c =
-    let s = c.args.self.now in
-    let a = c.loop-at.at in
-    let h : a < s.end = omega arith in
-    let i = c.loop-at.invariant.0 in
-    elim c.if-not-self-at.branch [
-      | then-not-self-at w ↦ let e = ap length (free-take s.skipped a s.end h w.if-not-self-at.true) in (omega (arith, w.n-is), omega (arith, w.n-is))
-      | else-not-self-at w ↦ let e = ap length (free_past s.skipped a s.end h w.if-not-self-at.false) in (omega (arith, w.n-is), omega (arith, w.n-is))
-    ]
 
 pub returns : goal.returns
 returns c =
-    let s = c.args.self.now in
-    let e = ap length (free_none s.skipped c.loop-at.at s.end (omega arith)) in
-    record { value = omega arith }
+    let f = c.self.inside in
+    let t = c.self.told in
+    let i = c.self.invariant in
+    let ahead : List Bool = take (f.end - f.next) (drop f.next f.skipped) in
+    let all = take_all c.loop-skipped.skipped-index ahead c.loop-skipped-test.false in
+    record {
+      value =
+          c.loop-skipped.invariant ∙ ap (count_by not) all ∙ sym (length-free f.skipped (f.end - f.next) f.next (omega arith))
+          ∙ ap (λ (a : Ahead). length a.left) c.self.view_is;
+    }

@@ -1,6 +1,6 @@
-use Rattle.std.proofs.Common.{◌≡◌, ◌+◌, ◌-◌, ◌≤◌, length}
-use Rattle.phone.specs.Cursors.{free, left}
+use Rattle.std.proofs.Common.{◌≡◌, not, take}
+use Rattle.std.specs.List.{count_by}
 use Rattle.phone.proofs.cursor.Cursor.count.Given as goal
 
-abbrev pub invariant-loop-at : goal.invariant-loop-at
-invariant-loop-at l = (l.n + length (free l.self.skipped l.at (l.self.end - l.at)) ≡ length (left l.self)) × (l.n ≤ l.at)
+abbrev pub invariant-loop-skipped : goal.invariant-loop-skipped
+invariant-loop-skipped l = l.n ≡ count_by not (take l.skipped-index l.skipped-items)

@@ -1,14 +1,16 @@
-use Rattle.std.proofs.Common.{◌-◌, arith}
-use Rattle.phone.proofs.Addresses.{free-outside}
+use Rattle.std.proofs.Common.{◌-◌, ap, ◌∙◌, arith}
+use Rattle.phone.specs.Areas.{outside}
+use Rattle.phone.specs.Cursors.{Ahead, free, leaving}
+use Rattle.phone.proofs.Addresses.{free-outside, marked}
 use Rattle.phone.proofs.cursor.Cursor.skip.Goals as goal
 
 pub returns : goal.returns
 returns c =
-    let s = c.loop-at.self in
-    let o = c.args.self.now in
-    let i = c.loop-at.invariant in
-    let w = c.requires.within in
-    let e = i.0 in
-    let n = i.1 in
-    let t = free-outside c.args.area o.skipped s.skipped (o.end - o.next) o.next (λ k l m. i.2 k (omega arith) l) in
-    record { after = cc; kept = record { whole = record { within = omega arith; small = omega arith }; same_end = e } }
+    let f = c.self.inside in
+    let b = c.below.ensures.value in
+    let i = c.self.invariant in
+    let t = c.self.told in
+    let m = marked c.args.area f.skipped c.fill.new.self c.below.result.start c.below.result.end t b.0 b.1 (c.fill.ensures.after (λ y e. e)) in
+    let o = free-outside c.args.area f.skipped _ (f.end - f.next) f.next (λ k l h. m k (omega arith)) in
+    let a : Ahead = record { picture = f.picture.now; end = f.end; left = free f.skipped f.next (f.end - f.next) } in
+    record { after = ap (leaving a) o ∙ ap (λ (a : Ahead). leaving a (outside c.args.area a.left)) c.self.view_is }

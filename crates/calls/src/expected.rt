@@ -2,8 +2,11 @@
 ghost use Rattle.std.specs.Prelude.{◌≡◌};
 ghost use Rattle.calls.specs.Expected.{expectation};
 
+use std::error::Error;
+use std::fmt;
+
 // One case for each thing that can be expected.
-#[derive(Clone, Copy)]
+#[derive(Clone, Copy, Debug)]
 pub enum Expected {
     Call,
     Kind,
@@ -38,3 +41,11 @@ impl Expected {
         }
     }
 }
+
+impl fmt::Display for Expected {
+    fn fmt<W: fmt::Write>(&self, f: &mut fmt::Formatter<W>) -> fmt::Result {
+        f.write_str(self.text())
+    }
+}
+
+impl Error for Expected {}

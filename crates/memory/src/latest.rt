@@ -3,7 +3,7 @@ ghost use Rattle.std.specs.Prelude.{◌≡◌};
 ghost use Rattle.memory.specs.Latest.{latest_of};
 
 // One write: the block, and the bytes that it got.
-#[derive(Clone, Copy)]
+#[derive(Clone, Copy, Default)]
 pub struct Record {
     pub block: u8,
     pub bytes: [u8; 4],

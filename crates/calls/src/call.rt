@@ -61,7 +61,7 @@ pub enum Line {
 }
 
 // Why a line is not read.
-#[derive(Clone, Copy, Debug, Error)]
+#[derive(Clone, Copy, Debug, PartialEq, Eq, Error)]
 pub enum ReadError {
     #[error("expected {0}")]
     Malformed(Expected),

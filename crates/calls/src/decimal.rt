@@ -17,6 +17,7 @@ pub(crate) fn number_in(word: &[u8]) -> Option<u32>
     if word.is_empty() {
         return None;
     }
+    // As plain as `try_fold`: it ends at the same sign.
     let mut n = 0;
     for digit in word {
         n = with_digit(n, *digit)?;

@@ -6,7 +6,7 @@ use std::error::Error;
 use std::fmt;
 
 // One case for each thing that can be expected.
-#[derive(Clone, Copy, Debug)]
+#[derive(Clone, Copy, Debug, PartialEq, Eq)]
 pub enum Expected {
     Call,
     Kind,

@@ -174,10 +174,10 @@ const MALFORMED: [Case; 40] = [
 #[test]
 fn malformed_lines_say_what_was_expected(rt: HostRuntime) -> Result<(), Fail> {
     for case in &MALFORMED {
-        let Err(ReadError::Malformed(expected)) = read(rt.alloc(), case.line.as_bytes()) else {
+        let Err(error) = read(rt.alloc(), case.line.as_bytes()) else {
             return Err(Fail::new(case.line));
         };
-        assert_eq!(rt; expected.text(), case.expected.text(), "{}", case.line);
+        assert_eq!(rt; error, ReadError::Malformed(case.expected), "{}", case.line);
     }
     Ok(())
 }

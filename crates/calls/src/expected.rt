@@ -1,5 +1,5 @@
 // What was expected in a line that is malformed.
-ghost use Rattle.std.specs.Prelude.{◌≡◌};
+ghost use Rattle.std.specs.Prelude.{◌≡◌, Some};
 ghost use Rattle.calls.specs.Expected.{expectation};
 
 use std::error::Error;
@@ -43,6 +43,8 @@ impl Expected {
 }
 
 impl fmt::Display for Expected {
+    ghost output = { λ e. Some (expectation e) };
+
     fn fmt<W: fmt::Write>(&self, f: &mut fmt::Formatter<W>) -> fmt::Result {
         f.write_str(self.text())
     }

@@ -1,2 +1,2 @@
 -- bytes written in hexadecimal digits
-pub mod Digits
+pub mod Encoding

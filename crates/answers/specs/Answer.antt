@@ -12,6 +12,13 @@ line t = t ++ (10 ∷ [])
 abbrev pub refusal : ℕ → List ℕ → ℕ → List ℕ
 refusal n l a = codes "refused " ++ (decimal n ++ (codes " " ++ (l ++ (codes " " ++ decimal a))))
 
+-- the word for a fault's layer
+abbrev pub layer : Fault → List ℕ
+layer (Memory n a) = codes "memory"
+layer (Call n a) = codes "call"
+layer (Air n a) = codes "air"
+layer (Layout n a) = codes "layout"
+
 -- a fault, with the word for its layer
 abbrev pub refused : Fault → List ℕ
 refused (Memory n a) = refusal n (codes "memory") a

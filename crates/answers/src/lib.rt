@@ -2,13 +2,11 @@
 #![tactic(auto)]
 
 ghost use Rattle.std.specs.Prelude.{◌≡◌, IfOk, string_bytes, codes};
-ghost use Rattle.answers.specs.Answer.{line, refusal, refused, made_line, drawn_line, power_line, bytes_of, answered, frame_line, left_line, row_line};
+ghost use Rattle.answers.specs.Hex.{hex};
+ghost use Rattle.answers.specs.Answer.{line, layer, refused, made_line, drawn_line, power_line, bytes_of, answered, frame_line, left_line, row_line};
 
-use crate::hex::hex;
 use air::fault::Fault;
 use std::alloc::{AllocError, Global};
-
-mod hex;
 
 // A text and the line's end.
 fn line(heap: Global, text: &str) -> Result<Vec<u8>, AllocError>
@@ -17,23 +15,34 @@ fn line(heap: Global, text: &str) -> Result<Vec<u8>, AllocError>
     Ok(format!(in heap; "{text}\n")?.into_bytes())
 }
 
-// A refusal by number, layer and address.
-fn refusal(heap: Global, number: u8, layer: &str, address: u16) -> Result<String, AllocError>
-    ensures made { IfOk result (λ s. string_bytes s ≡ refusal number layer.now address) }
+// Bytes in digits, or `-` for none.
+fn digits(heap: Global, bytes: &[u8]) -> Result<String, AllocError>
+    ensures made { IfOk result (λ s. string_bytes s ≡ hex bytes.now) }
 {
-    format!(in heap; "refused {number} {layer} {address}")
+    if bytes.is_empty() {
+        return String::from_str(heap, "-");
+    }
+    hex::encode_upper(heap, bytes)
 }
 
-// A fault, with the word for its layer.
+// The word for a fault's layer.
+fn layer(fault: Fault) -> &'static str
+    ensures value { result.now ≡ layer fault }
+{
+    match fault {
+        Fault::Memory { .. } => "memory",
+        Fault::Call { .. } => "call",
+        Fault::Air { .. } => "air",
+        Fault::Layout { .. } => "layout",
+    }
+}
+
+// A fault by its number, its layer and its address.
 fn refused(heap: Global, fault: Fault) -> Result<String, AllocError>
     ensures made { IfOk result (λ s. string_bytes s ≡ refused fault) }
 {
-    match fault {
-        Fault::Memory { number, address } => refusal(heap, number, "memory", address),
-        Fault::Call { number, address } => refusal(heap, number, "call", address),
-        Fault::Air { number, address } => refusal(heap, number, "air", address),
-        Fault::Layout { number, address } => refusal(heap, number, "layout", address),
-    }
+    let (number, layer, address) = (fault.number(), layer(fault), fault.address());
+    format!(in heap; "refused {number} {layer} {address}")
 }
 
 // The answer where a box is made.
@@ -57,6 +66,7 @@ fn drawn_line(heap: Global, number: u16, code: [u8; 3]) -> Result<Vec<u8>, Alloc
 }
 
 // The answer where power comes: whether there is a code, the number drawn, and the code.
+// The pair is what power on answers, taken as it comes.
 pub fn power_line(
     heap: Global,
     drawn: Result<(bool, u16), Fault>,
@@ -82,12 +92,7 @@ pub fn off_line(heap: Global) -> Result<Vec<u8>, AllocError>
 fn bytes_of(bits: usize, buffer: &[u8]) -> &[u8]
     ensures value { result.now ≡ bytes_of bits buffer.now }
 {
-    let count = bits.div_ceil(8);
-    if count < buffer.len() {
-        &buffer[0..count]
-    } else {
-        buffer
-    }
+    buffer.get(..bits.div_ceil(8)).unwrap_or(buffer)
 }
 
 // The answer to a frame, by the number of its bits and the buffer that it lies in.
@@ -97,7 +102,7 @@ fn answered(heap: Global, bits: Result<usize, Fault>, buffer: &[u8]) -> Result<S
     match bits {
         Ok(0) => String::from_str(heap, "silence"),
         Ok(bits) => {
-            let bytes = hex(heap, bytes_of(bits, buffer))?;
+            let bytes = digits(heap, bytes_of(bits, buffer))?;
             format!(in heap; "answer {bits} {bytes}")
         }
         Err(fault) => refused(heap, fault),
@@ -115,7 +120,7 @@ pub fn frame_line(
 {
     let answer = answered(heap, bits, buffer)?;
     if shown {
-        let whole = hex(heap, buffer)?;
+        let whole = digits(heap, buffer)?;
         Ok(format!(in heap; "{answer} | {whole}\n")?.into_bytes())
     } else {
         line(heap, &answer)
@@ -133,5 +138,5 @@ pub fn left_line(heap: Global, left: u32) -> Result<Vec<u8>, AllocError>
 pub fn row_line(heap: Global, row: &[u8]) -> Result<Vec<u8>, AllocError>
     ensures made { IfOk result (λ v. v.items ≡ row_line row.now) }
 {
-    line(heap, &hex(heap, row)?)
+    line(heap, &digits(heap, row)?)
 }

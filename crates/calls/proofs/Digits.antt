@@ -1,53 +1,65 @@
--- Two digits after the other.
-use Rattle.std.proofs.Common.{◌≡◌, ℕ, ◌+◌, ◌≤◌, List, [], ◌∷◌, ◌++◌, length, get_or, drop, Some, None, Option, sym, refl, ap, ◌∙◌, append_assoc, arith}
-use Rattle.std.proofs.lemmas.List.{append-nil, drop_more, length-drop}
-use Rattle.std.specs.Option.{option_map}
-use Rattle.calls.specs.Hex.{digit_value, with_high, prepended, written}
+-- Bytes in hexadecimal digits, in our words and in the library's.
+use Rattle.std.proofs.Common.{◌≡◌, ℕ, ◌+◌, ◌*◌, ◌%◌, List, [], ◌∷◌, length, Some, None, Option, Ok, Err, Result, refl, sym, ap, ◌∙◌, inl, inr, arith}
+use Rattle.std.proofs.lemmas.Bool.{cases_eq, cond-true, cond-false, eq-eqb, ne_eqb}
+use Rattle.std.specs.Result.{result_ok}
+use Rattle.calls.specs.Hex.{digit_value, with_high, prepended, written, written_as}
+use Rattle.hex.specs.Hex.{hex_digit_value, digit_or_error, decode_pairs, decode_of, decode_sized, ◌>>=◌}
+use Rattle.hex.specs.declared.error.FromHexError.{FromHexError}
+use Rattle.hex.proofs.HexLemmas.{decode_of-even, decode_of-odd, decode_sized-twice, decode_sized-other, decode_sized-odd}
 
-two : (xs : List ℕ) (k : ℕ) → k + 2 ≤ length xs → written (drop k xs) ≡ prepended (with_high (digit_value (get_or xs k 0)) (digit_value (get_or xs (k + 1) 0))) (written (drop (k + 2) xs))
+same_value : (d : ℕ) → digit_value d ≡ hex_digit_value d
+same_value d = grind arith
+
+-- a byte and those after it
+joined : (o p : Option ℕ) (h l i : ℕ) (r : Result (List ℕ) FromHexError)
+    → prepended (with_high o p) (result_ok r)
+    ≡ result_ok ((digit_or_error h i o >>= (λ a. digit_or_error l (i + 1) p >>= (λ b. Ok (a * 16 + b)))) >>= (λ b. r >>= (λ bs. Ok (b ∷ bs))))
+joined None p h l i r = refl
+joined (Some a) None h l i r = refl
+joined (Some a) (Some b) h l i (Ok bs) = refl
+joined (Some a) (Some b) h l i (Err e) = refl
+
+pairs : (i : ℕ) (s : List ℕ) → written s ≡ result_ok (decode_pairs i s)
+unfolding written decode_pairs
+pairs i [] = refl
+pairs i (d ∷ []) = refl
+pairs i (h ∷ l ∷ ds) =
+    ap (λ z. prepended (with_high z (digit_value l)) (written ds)) (same_value h)
+    ∙ ap (λ z. prepended (with_high (hex_digit_value h) z) (written ds)) (same_value l)
+    ∙ ap (prepended (with_high (hex_digit_value h) (hex_digit_value l))) (pairs (i + 2) ds)
+    ∙ joined (hex_digit_value h) (hex_digit_value l) h l i (decode_pairs (i + 2) ds)
+
+none_after : (o : Option ℕ) → prepended o None ≡ None
+none_after None = refl
+none_after (Some b) = refl
+
+odd : (s : List ℕ) → length s % 2 ≡ 1 → written s ≡ None
 unfolding written
-two xs k h =
-    let e = drop_more xs k 0 (omega arith) in
-    let f = drop_more xs (k + 1) 0 (omega arith) in
-    let g : k + 1 + 1 ≡ k + 2 = omega arith in
-    ap written (e ∙ ap (λ z. get_or xs k 0 ∷ z) (f ∙ ap (λ z. get_or xs (k + 1) 0 ∷ drop z xs) g))
+odd [] h = absurd (omega arith)
+odd (d ∷ []) h = refl
+odd (x ∷ y ∷ ds) h =
+    let o : Option ℕ = with_high (digit_value x) (digit_value y) in
+    ap (prepended o) (odd ds (omega arith)) ∙ none_after o
 
-moved : (bs : List ℕ) (b : ℕ) (o : Option (List ℕ)) → option_map (λ (t : List ℕ). bs ++ t) (prepended (Some b) o) ≡ option_map (λ (t : List ℕ). (bs ++ (b ∷ [])) ++ t) o
-moved bs b None = refl
-moved bs b (Some t) = ap Some (sym (append_assoc bs (b ∷ []) t))
+-- the bytes that a text writes are those that decoding it gives
+pub whole : (s : List ℕ) → written s ≡ result_ok (decode_of s)
+whole s =
+    elim (cases_eq (length s % 2) 1) [
+      | inl h ↦ odd s h ∙ sym (ap result_ok (decode_of-odd s h))
+      | inr h ↦ pairs 0 s ∙ sym (ap result_ok (decode_of-even s (omega arith)))
+    ]
 
--- a byte that two digits write goes over to the bytes so far
-pub byte_on : (bs cs xs : List ℕ) (k b : ℕ) (w : Option (List ℕ)) → k + 2 ≤ length xs → Some b ≡ with_high (digit_value (get_or xs k 0)) (digit_value (get_or xs (k + 1) 0)) → cs ≡ bs ++ (b ∷ []) → option_map (λ (t : List ℕ). bs ++ t) (written (drop k xs)) ≡ w → option_map (λ (t : List ℕ). cs ++ t) (written (drop (k + 2) xs)) ≡ w
-byte_on bs cs xs k b w h e c i =
-    let o : Option (List ℕ) = written (drop (k + 2) xs) in
-    let r : written (drop k xs) ≡ prepended (Some b) o = two xs k h ∙ ap (λ z. prepended z o) (sym e) in
-    ap (λ z. option_map (λ (t : List ℕ). z ++ t) o) c ∙ sym (moved bs b o) ∙ ap (option_map (λ (t : List ℕ). bs ++ t)) (sym r) ∙ i
+other : (n : ℕ) (s : List ℕ) → (length s ≡ 2 * n → ⊥) → result_ok (decode_sized s n) ≡ None
+other n s h =
+    elim (cases_eq (length s % 2) 1) [
+      | inl o ↦ ap result_ok (decode_sized-odd s n o)
+      | inr e ↦ ap result_ok (decode_sized-other s n (omega arith) (λ m. h (omega arith)))
+    ]
 
--- two signs that write no byte
-pub no_byte : (bs xs : List ℕ) (k : ℕ) (w : Option (List ℕ)) → k + 2 ≤ length xs → None ≡ with_high (digit_value (get_or xs k 0)) (digit_value (get_or xs (k + 1) 0)) → option_map (λ (t : List ℕ). bs ++ t) (written (drop k xs)) ≡ w → None ≡ w
-no_byte bs xs k w h e i =
-    let o : Option (List ℕ) = written (drop (k + 2) xs) in
-    let r : written (drop k xs) ≡ prepended None o = two xs k h ∙ ap (λ z. prepended z o) (sym e) in
-    ap (option_map (λ (t : List ℕ). bs ++ t)) (sym r) ∙ i
-
-read_out : (bs ys : List ℕ) (w : Option (List ℕ)) → length ys ≡ 0 → option_map (λ (t : List ℕ). bs ++ t) (written ys) ≡ w → Some bs ≡ w
-unfolding written
-read_out bs [] w h i = ap Some (sym (append-nil bs)) ∙ i
-read_out bs (x ∷ ys) w h i = let b : ⊥ = omega arith in absurd b
-
-pub all_read : (bs xs : List ℕ) (k : ℕ) (w : Option (List ℕ)) → length xs ≡ k → option_map (λ (t : List ℕ). bs ++ t) (written (drop k xs)) ≡ w → Some bs ≡ w
-all_read bs xs k w h i = read_out bs (drop k xs) w (simp length-drop (omega arith)) i
-
-odd_out : (bs ys : List ℕ) (w : Option (List ℕ)) → length ys ≡ 1 → option_map (λ (t : List ℕ). bs ++ t) (written ys) ≡ w → None ≡ w
-unfolding written
-odd_out bs [] w h i = let b : ⊥ = omega arith in absurd b
-odd_out bs (x ∷ []) w h i = i
-odd_out bs (x ∷ y ∷ ys) w h i = let b : ⊥ = omega arith in absurd b
-
-pub one_left : (bs xs : List ℕ) (k : ℕ) (w : Option (List ℕ)) → length xs ≡ k + 1 → option_map (λ (t : List ℕ). bs ++ t) (written (drop k xs)) ≡ w → None ≡ w
-one_left bs xs k w h i = odd_out bs (drop k xs) w (simp length-drop (omega arith)) i
-
--- before the first byte
-pub no_byte_yet : (o : Option (List ℕ)) → option_map (λ (t : List ℕ). t) o ≡ o
-no_byte_yet None = refl
-no_byte_yet (Some t) = refl
+-- and so they are where just n bytes are decoded
+pub sized : (n : ℕ) (s : List ℕ) → written_as n s ≡ result_ok (decode_sized s n)
+sized n s =
+    elim (cases_eq (length s) (2 * n)) [
+      | inl h ↦ cond-true _ _ _ (eq-eqb _ _ h) ∙ whole s ∙ sym (ap result_ok (decode_sized-twice s n h))
+      | inr h ↦ cond-false _ _ _ (ne_eqb _ _ h) ∙ sym (other n s h)
+    ]

@@ -1,6 +1,6 @@
--- how far the front of a list goes
-pub mod Fronts
 -- bytes written in hexadecimal digits
 pub mod Digits
+-- words by their signs
+pub mod Spelling
 -- numbers written in decimal digits
 pub mod Numbers

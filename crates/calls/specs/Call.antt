@@ -1,11 +1,13 @@
 -- What a line of input calls for, or what was expected in it.
-use Rattle.std.specs.Prelude.{ℕ, cond, List, [], length, Some, None, Ok, Err, vec_items, codes, Option, Result, ◌==◌, nat_lt}
+use Rattle.std.specs.Prelude.{◌≡◌, ℕ, cond, List, [], length, Some, None, Ok, Err, vec_items, codes, Option, Result, ◌==◌, nat_lt}
 use Rattle.std.specs.Option.{ok_or}
 use Rattle.std.specs.Str.{bytes_eq}
 use Rattle.calls.specs.declared.call.Kind.{Kind}
 use Rattle.calls.specs.declared.call.Kind.TheVariants.{Picture, Log}
 use Rattle.calls.specs.declared.call.Line.{Line}
 use Rattle.calls.specs.declared.call.Line.TheVariants.{Blank, Make, PowerOn, PowerOff, Frame, Memory}
+use Rattle.calls.specs.declared.call.ReadError.{ReadError}
+use Rattle.calls.specs.declared.call.ReadError.TheVariants.{Malformed, OutOfMemory}
 use Rattle.calls.specs.declared.expected.Expected.{Expected}
 use Rattle.calls.specs.declared.expected.Expected.TheVariants as expect
 use Rattle.calls.specs.Words.{uncommented, first, rest, word}
@@ -24,7 +26,7 @@ pub data Call : Type 0 where
 -- what a value of the code's type says, a frame's bytes as a list
 abbrev pub said : Line → Call
 said Blank = blank
-said (Make k n u p w) = make k n u p w
+said (Make o) = make o.kind o.size o.uid o.product o.password
 said PowerOn = power_on
 said PowerOff = power_off
 said (Frame v n r) = frame (vec_items v) n r
@@ -34,6 +36,12 @@ said Memory = memory
 abbrev pub read_as : Result Line Expected → Result Call Expected
 read_as (Ok l) = Ok (said l)
 read_as (Err e) = Err e
+
+-- what is read is told as it is seen by v, or what was expected; only memory can keep that from being known
+abbrev pub Reads : {X Y : Type 0} → (Y → X) → Result X Expected → Result Y ReadError → Type 0
+Reads v r (Ok y) = Ok (v y) ≡ r
+Reads v r (Err (Malformed e)) = Err e ≡ r
+Reads v r (Err OutOfMemory) = Unit {0}
 
 -- goes on with what was read; the first thing that is not as expected ends the reading
 abbrev pub and_then : {X : Type 0} → Result X Expected → (X → Result Call Expected) → Result Call Expected

@@ -1,14 +1,18 @@
 // The calls that lines of input give, one a line.
-ghost use Rattle.std.specs.Prelude.{◌≡◌, IfOk, vec_items};
-ghost use Rattle.std.specs.Option.{option_map};
+ghost use Rattle.std.specs.Prelude.{◌≡◌, vec_items};
+ghost use Rattle.std.specs.Option.{ok_or};
+ghost use Rattle.calls.specs.Call.{said, read_as, at_end, kind_in, size_in, make_in, frame_bytes, count_in, room_in, frame_with, frame_in, call_in, line_of, Reads};
+ghost use Rattle.calls.specs.Hex.{written, written_as};
 ghost use Rattle.calls.specs.Words.{first};
-ghost use Rattle.calls.specs.Call.{said, read_as, at_end, kind_in, size_in, make_in, frame_bytes, count_in, room_in, frame_with, frame_in, line_of};
+ghost use Rattle.calls.specs.declared.call.ReadError.TheVariants.{Malformed};
+ghost use Rattle.calls.specs.declared.expected.Expected.TheVariants as expect;
 
 use crate::decimal::number_in;
 use crate::expected::Expected;
-use crate::hex::{array_written, bytes_written};
-use crate::words::{is, next_word, without_comment};
-use std::alloc::{AllocError, Global};
+use crate::words::{next_word, without_comment};
+use hex::{FromHex, FromHexError};
+use std::alloc::Global;
+use thiserror::Error;
 
 // What a box's memory is.
 #[derive(Clone, Copy)]
@@ -17,17 +21,35 @@ pub enum Kind {
     Log,
 }
 
+impl TryFrom<&[u8]> for Kind {
+    type Error = Expected;
+
+    ghost try_from_gives = { λ w r. r ≡ kind_in w.now };
+
+    fn try_from(word: &[u8]) -> Result<Kind, Expected> {
+        match word {
+            b"picture" => Ok(Kind::Picture),
+            b"log" => Ok(Kind::Log),
+            _ => Err(Expected::Kind),
+        }
+    }
+}
+
+// What a box is made over, and with what: the size is a picture's writes or a log's places.
+#[derive(Clone, Copy)]
+pub struct Order {
+    pub kind: Kind,
+    pub size: u32,
+    pub uid: [u8; 7],
+    pub product: [u8; 4],
+    pub password: [u8; 4],
+}
+
 // What a line calls for.
 #[derive(Drop)]
 pub enum Line {
     Blank,
-    Make {
-        kind: Kind,
-        size: u32,
-        uid: [u8; 7],
-        product: [u8; 4],
-        password: [u8; 4],
-    },
+    Make(Order),
     PowerOn,
     PowerOff,
     Frame {
@@ -36,6 +58,23 @@ pub enum Line {
         room: Option<u32>,
     },
     Memory,
+}
+
+// Why a line is not read.
+#[derive(Clone, Copy, Debug, PartialEq, Eq, Error)]
+pub enum ReadError {
+    #[error("expected {0}")]
+    Malformed(Expected),
+    #[error("memory allocation failed")]
+    OutOfMemory,
+}
+
+impl From<Expected> for ReadError {
+    ghost from_gives = { λ e r. r ≡ Malformed e };
+
+    fn from(expected: Expected) -> ReadError {
+        ReadError::Malformed(expected)
+    }
 }
 
 // The line, if no word is left.
@@ -50,27 +89,21 @@ fn at_end(text: &[u8], line: Line) -> Result<Line, Expected>
     }
 }
 
-// The kind of a box's memory.
-fn kind_in(word: &[u8]) -> Result<Kind, Expected>
-    ensures value { result ≡ kind_in word.now }
-{
-    if is(word, "picture") {
-        Ok(Kind::Picture)
-    } else if is(word, "log") {
-        Ok(Kind::Log)
-    } else {
-        Err(Expected::Kind)
-    }
-}
-
 // A number of writes for a picture, of places for a log.
 fn size_in(kind: Kind, word: &[u8]) -> Result<u32, Expected>
     ensures value { result ≡ size_in kind word.now }
 {
-    match kind {
-        Kind::Picture => number_in(word).ok_or(Expected::Writes),
-        Kind::Log => number_in(word).ok_or(Expected::Places),
-    }
+    number_in(word).ok_or(match kind {
+        Kind::Picture => Expected::Writes,
+        Kind::Log => Expected::Places,
+    })
+}
+
+// So many bytes in hexadecimal digits.
+fn array_in<const N: usize>(word: &[u8], expected: Expected) -> Result<[u8; N], Expected>
+    ensures value { result ≡ ok_or (written_as N word.now) expected }
+{
+    FromHex::from_hex(word).ok().ok_or(expected)
 }
 
 // The rest of a line that makes a box.
@@ -78,38 +111,47 @@ fn make_in(text: &[u8]) -> Result<Line, Expected>
     ensures value { read_as result ≡ make_in text.now }
 {
     let (kind, text) = next_word(text);
-    let kind = kind_in(kind)?;
+    let kind = Kind::try_from(kind)?;
     let (size, text) = next_word(text);
     let size = size_in(kind, size)?;
     let (uid, text) = next_word(text);
-    let uid = array_written(uid).ok_or(Expected::Uid)?;
+    let uid = array_in(uid, Expected::Uid)?;
     let (product, text) = next_word(text);
-    let product = array_written(product).ok_or(Expected::Product)?;
+    let product = array_in(product, Expected::Product)?;
     let (password, text) = next_word(text);
-    let password = array_written(password).ok_or(Expected::Password)?;
+    let password = array_in(password, Expected::Password)?;
     at_end(
         text,
-        Line::Make {
+        Line::Make(Order {
             kind,
             size,
             uid,
             product,
             password,
-        },
+        }),
     )
 }
 
-// The bytes of a frame, where `-` stands for none.
-fn frame_bytes(heap: Global, word: &[u8]) -> Result<Option<Vec<u8>>, AllocError>
-    ensures made { IfOk result (λ o. option_map vec_items o ≡ frame_bytes word.now) }
+// Any number of bytes in hexadecimal digits.
+fn bytes_in(heap: Global, word: &[u8]) -> Result<Vec<u8>, ReadError>
+    ensures reads { Reads vec_items (ok_or (written word.now) expect.Frame) result }
 {
-    if word.is_empty() {
-        return Ok(None);
+    match hex::decode(heap, word) {
+        Ok(bytes) => Ok(bytes),
+        Err(FromHexError::OutOfMemory) => Err(ReadError::OutOfMemory),
+        Err(_) => Err(ReadError::Malformed(Expected::Frame)),
     }
-    if is(word, "-") {
-        return Ok(Some(Vec::new(heap)));
+}
+
+// The bytes of a frame, where `-` stands for none.
+fn frame_bytes(heap: Global, word: &[u8]) -> Result<Vec<u8>, ReadError>
+    ensures reads { Reads vec_items (ok_or (frame_bytes word.now) expect.Frame) result }
+{
+    match word {
+        b"" => Err(ReadError::Malformed(Expected::Frame)),
+        b"-" => Ok(Vec::new(heap)),
+        _ => bytes_in(heap, word),
     }
-    bytes_written(heap, word)
 }
 
 // A bit count, 8 if absent.
@@ -119,10 +161,8 @@ fn count_in(word: &[u8]) -> Result<u8, Expected>
     if word.is_empty() {
         return Ok(8);
     }
-    match number_in(word) {
-        Some(n @ 0..=255) => Ok(n as u8),
-        _ => Err(Expected::Count),
-    }
+    let count = number_in(word).ok_or(Expected::Count)?;
+    u8::try_from(count).map_err(|_| Expected::Count)
 }
 
 // A room in bytes, none if absent.
@@ -132,10 +172,8 @@ fn room_in(word: &[u8]) -> Result<Option<u32>, Expected>
     if word.is_empty() {
         return Ok(None);
     }
-    match number_in(word) {
-        Some(n) => Ok(Some(n)),
-        None => Err(Expected::Room),
-    }
+    let room = number_in(word).ok_or(Expected::Room)?;
+    Ok(Some(room))
 }
 
 // The rest of a line with a frame, after its bytes.
@@ -150,34 +188,33 @@ fn frame_with(bytes: Vec<u8>, text: &[u8]) -> Result<Line, Expected>
 }
 
 // The rest of a line with a frame.
-fn frame_in(heap: Global, text: &[u8]) -> Result<Result<Line, Expected>, AllocError>
-    ensures made { IfOk result (λ l. read_as l ≡ frame_in text.now) }
+fn frame_in(heap: Global, text: &[u8]) -> Result<Line, ReadError>
+    ensures reads { Reads said (frame_in text.now) result }
 {
     let (word, text) = next_word(text);
-    match frame_bytes(heap, word)? {
-        Some(bytes) => Ok(frame_with(bytes, text)),
-        None => Ok(Err(Expected::Frame)),
+    let bytes = frame_bytes(heap, word)?;
+    Ok(frame_with(bytes, text)?)
+}
+
+// What a line calls for, by its first word and what follows that.
+fn call_in(heap: Global, call: &[u8], text: &[u8]) -> Result<Line, ReadError>
+    ensures reads { Reads said (call_in call.now text.now) result }
+{
+    match call {
+        b"" => Ok(Line::Blank),
+        b"box" => Ok(make_in(text)?),
+        b"on" => Ok(at_end(text, Line::PowerOn)?),
+        b"off" => Ok(at_end(text, Line::PowerOff)?),
+        b"frame" => frame_in(heap, text),
+        b"memory" => Ok(at_end(text, Line::Memory)?),
+        _ => Err(ReadError::Malformed(Expected::Call)),
     }
 }
 
 // What a line of input calls for, or what was expected in it.
-pub fn read(heap: Global, line: &[u8]) -> Result<Result<Line, Expected>, AllocError>
-    ensures made { IfOk result (λ l. read_as l ≡ line_of line.now) }
+pub fn read(heap: Global, line: &[u8]) -> Result<Line, ReadError>
+    ensures reads { Reads said (line_of line.now) result }
 {
     let (call, text) = next_word(without_comment(line));
-    if call.is_empty() {
-        Ok(Ok(Line::Blank))
-    } else if is(call, "box") {
-        Ok(make_in(text))
-    } else if is(call, "on") {
-        Ok(at_end(text, Line::PowerOn))
-    } else if is(call, "off") {
-        Ok(at_end(text, Line::PowerOff))
-    } else if is(call, "frame") {
-        frame_in(heap, text)
-    } else if is(call, "memory") {
-        Ok(at_end(text, Line::Memory))
-    } else {
-        Ok(Err(Expected::Call))
-    }
+    call_in(heap, call, text)
 }

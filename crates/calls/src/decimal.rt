@@ -6,10 +6,8 @@ ghost use Rattle.calls.specs.Decimal.{with_digit, number};
 fn with_digit(number: u32, digit: u8) -> Option<u32>
     ensures value { result ≡ with_digit number digit }
 {
-    match digit {
-        b'0'..=b'9' => number.checked_mul(10)?.checked_add(u32::from(digit - b'0')),
-        _ => None,
-    }
+    let digit = char::from(digit).to_digit(10)?;
+    number.checked_mul(10)?.checked_add(digit)
 }
 
 // The number that a word writes, if it does.
@@ -19,6 +17,7 @@ pub(crate) fn number_in(word: &[u8]) -> Option<u32>
     if word.is_empty() {
         return None;
     }
+    // As plain as `try_fold`: it ends at the same sign.
     let mut n = 0;
     for digit in word {
         n = with_digit(n, *digit)?;

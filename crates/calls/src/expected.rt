@@ -1,9 +1,12 @@
 // What was expected in a line that is malformed.
-ghost use Rattle.std.specs.Prelude.{◌≡◌};
+ghost use Rattle.std.specs.Prelude.{◌≡◌, Some};
 ghost use Rattle.calls.specs.Expected.{expectation};
 
+use std::error::Error;
+use std::fmt;
+
 // One case for each thing that can be expected.
-#[derive(Clone, Copy)]
+#[derive(Clone, Copy, Debug, PartialEq, Eq)]
 pub enum Expected {
     Call,
     Kind,
@@ -38,3 +41,13 @@ impl Expected {
         }
     }
 }
+
+impl fmt::Display for Expected {
+    ghost output = { λ e. Some (expectation e) };
+
+    fn fmt<W: fmt::Write>(&self, f: &mut fmt::Formatter<W>) -> fmt::Result {
+        f.write_str(self.text())
+    }
+}
+
+impl Error for Expected {}

@@ -4,5 +4,4 @@
 pub mod call;
 mod decimal;
 pub mod expected;
-mod hex;
 mod words;

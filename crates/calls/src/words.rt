@@ -1,6 +1,5 @@
 // The words of a line: separated by spaces, up to the comment.
 ghost use Rattle.std.specs.Prelude.{◌≡◌, ◌≤◌, length};
-ghost use Rattle.std.specs.Str.{bytes_eq};
 ghost use Rattle.calls.specs.Words.{up_to, spaces, uncommented, first, rest};
 
 // How many signs come before the first of a kind.
@@ -8,12 +7,7 @@ fn up_to(sign: u8, text: &[u8]) -> usize
     ensures value { result ≡ up_to sign text.now }
     ensures bound { result ≤ length text.now }
 {
-    for (i, each) in text.iter().enumerate() {
-        if *each == sign {
-            return i;
-        }
-    }
-    text.len()
+    text.iter().take_while(|each| **each != sign).count()
 }
 
 // How many spaces come first.
@@ -21,20 +15,14 @@ fn leading_spaces(text: &[u8]) -> usize
     ensures value { result ≡ spaces text.now }
     ensures bound { result ≤ length text.now }
 {
-    for (i, each) in text.iter().enumerate() {
-        if *each != b' ' {
-            return i;
-        }
-    }
-    text.len()
+    text.iter().take_while(|each| **each == b' ').count()
 }
 
 // The line without its comment.
 pub(crate) fn without_comment(line: &[u8]) -> &[u8]
     ensures value { result.now ≡ uncommented line.now }
 {
-    let (before, _) = line.split_at(up_to(b'#', line));
-    before
+    &line[..up_to(b'#', line)]
 }
 
 // The first word, empty where there is none, and what follows it.
@@ -44,11 +32,4 @@ pub(crate) fn next_word(text: &[u8]) -> (&[u8], &[u8])
 {
     let (_, unspaced) = text.split_at(leading_spaces(text));
     unspaced.split_at(up_to(b' ', unspaced))
-}
-
-// Whether a word is this one.
-pub(crate) fn is(word: &[u8], name: &str) -> bool
-    ensures value { result ≡ bytes_eq word.now name.now }
-{
-    word == name.as_bytes()
 }

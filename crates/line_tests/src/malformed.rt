@@ -1,5 +1,5 @@
 // Lines that are malformed, each with what was expected in it.
-use calls::call::read;
+use calls::call::{ReadError, read};
 use calls::expected::Expected;
 use std::test::Fail;
 
@@ -174,10 +174,10 @@ const MALFORMED: [Case; 40] = [
 #[test]
 fn malformed_lines_say_what_was_expected(rt: HostRuntime) -> Result<(), Fail> {
     for case in &MALFORMED {
-        match read(rt.alloc(), case.line.as_bytes())? {
-            Ok(_) => return Err(Fail::new(case.line)),
-            Err(expected) => assert_eq!(rt; expected.text(), case.expected.text(), "{}", case.line),
-        }
+        let Err(error) = read(rt.alloc(), case.line.as_bytes()) else {
+            return Err(Fail::new(case.line));
+        };
+        assert_eq!(rt; error, ReadError::Malformed(case.expected), "{}", case.line);
     }
     Ok(())
 }

@@ -1,12 +1,12 @@
 // Lines that are well-formed, and answers.
 use answers::{frame_line, power_line};
-use calls::call::{Kind, Line, read};
+use calls::call::{Kind, Line, Order, read};
 use std::test::Fail;
 
 #[test]
 fn lines_without_a_word_are_blank(rt: HostRuntime) -> Result<(), Fail> {
     for line in ["", "   ", "# on", "  #", "#on#"] {
-        let Ok(Line::Blank) = read(rt.alloc(), line.as_bytes())? else {
+        let Ok(Line::Blank) = read(rt.alloc(), line.as_bytes()) else {
             return Err(Fail::new(line));
         };
     }
@@ -15,13 +15,13 @@ fn lines_without_a_word_are_blank(rt: HostRuntime) -> Result<(), Fail> {
 
 #[test]
 fn short_calls_are_read(rt: HostRuntime) -> Result<(), Fail> {
-    let Ok(Line::PowerOn) = read(rt.alloc(), b"  on  ")? else {
+    let Ok(Line::PowerOn) = read(rt.alloc(), b"  on  ") else {
         return Err(Fail::new("spaces around"));
     };
-    let Ok(Line::PowerOff) = read(rt.alloc(), b"off#now")? else {
+    let Ok(Line::PowerOff) = read(rt.alloc(), b"off#now") else {
         return Err(Fail::new("a comment right after the word"));
     };
-    let Ok(Line::Memory) = read(rt.alloc(), b"memory # all of it")? else {
+    let Ok(Line::Memory) = read(rt.alloc(), b"memory # all of it") else {
         return Err(Fail::new("a comment after a space"));
     };
     Ok(())
@@ -31,14 +31,16 @@ fn short_calls_are_read(rt: HostRuntime) -> Result<(), Fail> {
 fn boxes_are_read(rt: HostRuntime) -> Result<(), Fail> {
     let line = b"box  picture 4294967295 04aAbBcCdDeEfF 0a1B2c3D ffFFffFF";
     let Ok(
-        Line::Make {
-            kind: Kind::Picture,
-            size,
-            uid,
-            product,
-            password,
-        },
-    ) = read(rt.alloc(), line)?
+        Line::Make(
+            Order {
+                kind: Kind::Picture,
+                size,
+                uid,
+                product,
+                password,
+            },
+        ),
+    ) = read(rt.alloc(), line)
     else {
         return Err(Fail::new("a picture"));
     };
@@ -47,12 +49,14 @@ fn boxes_are_read(rt: HostRuntime) -> Result<(), Fail> {
     assert_eq!(rt; product, [0x0a, 0x1b, 0x2c, 0x3d]);
     assert_eq!(rt; password, [0xff, 0xff, 0xff, 0xff]);
     let Ok(
-        Line::Make {
-            kind: Kind::Log,
-            size,
-            ..
-        },
-    ) = read(rt.alloc(), b"box log 007 00000000000000 00000000 00000000")?
+        Line::Make(
+            Order {
+                kind: Kind::Log,
+                size,
+                ..
+            },
+        ),
+    ) = read(rt.alloc(), b"box log 007 00000000000000 00000000 00000000")
     else {
         return Err(Fail::new("a log"));
     };
@@ -109,7 +113,7 @@ const FRAMES: [FrameCase; 6] = [
 #[test]
 fn frames_are_read(rt: HostRuntime) -> Result<(), Fail> {
     for case in &FRAMES {
-        let Ok(Line::Frame { bytes, count, room }) = read(rt.alloc(), case.line.as_bytes())? else {
+        let Ok(Line::Frame { bytes, count, room }) = read(rt.alloc(), case.line.as_bytes()) else {
             return Err(Fail::new(case.line));
         };
         assert_eq!(rt; bytes.as_slice(), case.bytes, "{}", case.line);

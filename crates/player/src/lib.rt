@@ -1,16 +1,20 @@
 // Plays lines of input on boxes: each call is answered before the next line is read.
 #![tactic(auto)]
 
+ghost use Rattle.std.specs.Prelude.{IfOk};
+ghost use Rattle.player.specs.Input.{IsShorter};
+
 use air::answer::ROOM;
 use answers::{frame_line, left_line, made_line, off_line, power_line, row_line};
 use anyhow::anyhow;
-use calls::call::{Kind, Line};
-use memory::Memory;
+use calls::call::{Kind, Line, Order, ReadError, read};
 use memory::latest::Record;
 use memory::log::LogMemory;
 use memory::picture::PictureMemory;
+use memory::{BLOCKS, Memory};
 use std::alloc::{AllocError, Global};
-use std::io::{BufRead, BufReader, Stdin, Stdout, Write};
+use std::fmt::Display;
+use std::io::{BufRead, BufReader, Split, Stdin, Stdout, Write};
 use std::process::ExitCode;
 use tag::Tag;
 use tag::code::{HYPHENS, tap_code};
@@ -22,48 +26,35 @@ const UNTOUCHED: u8 = 0xee;
 // As many places as a log memory uses.
 const PLACES: usize = 4096;
 
-const UNUSED: Record = Record {
-    block: 0,
-    bytes: [0; 4],
-};
-
-// What a box is made over, and with what.
-#[derive(Clone, Copy)]
-struct Order {
-    kind: Kind,
-    size: u32,
-    identity: Identity,
-}
-
-// The calls that come in, and the number of the line that was read last.
+// The lines that come in, and the number of the line that was read last.
 #[derive(Drop)]
 struct Input {
     heap: Global,
-    reader: BufReader<Stdin>,
+    lines: Split<BufReader<Stdin>>,
     number: u64,
 }
 
 impl Input {
+    ghost use Rattle.player.specs.Input.{IsShorter};
+
     // The message about the line that was read last.
-    fn expected(&self, what: &str) -> anyhow::Error {
+    fn expected(&self, what: &impl Display) -> anyhow::Error {
         let number = self.number;
         anyhow!("line {number}: expected {what}")
     }
 
     // The call of the next line, or none at the input's end.
-    fn next(&mut self) -> anyhow::Result<Option<Line>> {
-        let mut text = Vec::new(self.heap);
-        if self.reader.read_until(b'\n', &mut text)? == 0 {
+    fn next(&mut self) -> anyhow::Result<Option<Line>>
+        ensures shorter { IfOk result (λ o. IsShorter self.old o self.new) }
+    {
+        let Some(text) = self.lines.next() else {
             return Ok(None);
-        }
-        self.number = self.number.saturating_add(1);
-        let line = match text.as_slice() {
-            [line @ .., b'\n'] => line,
-            line => line,
         };
-        match calls::call::read(self.heap, line)? {
+        self.number = self.number.saturating_add(1);
+        match read(self.heap, &text?) {
             Ok(line) => Ok(Some(line)),
-            Err(expected) => Err(self.expected(expected.text())),
+            Err(ReadError::Malformed(expected)) => Err(self.expected(&expected)),
+            Err(error) => Err(error.into()),
         }
     }
 }
@@ -76,10 +67,7 @@ fn frame<M: Memory>(
     count: u8,
     room: Option<u32>,
 ) -> Result<Vec<u8>, AllocError> {
-    let size = match room {
-        Some(size) => size as usize,
-        None => ROOM,
-    };
+    let size = room.map_or(ROOM, |size| size as usize);
     let mut buffer = Vec::from_elem(heap, UNTOUCHED, size)?;
     let bits = tag.frame(bytes, count, buffer.as_mut_slice());
     frame_line(heap, bits, &buffer, room.is_some())
@@ -87,16 +75,16 @@ fn frame<M: Memory>(
 
 // The writes left, and the stored blocks four to a line.
 fn stored<M: Memory>(heap: Global, tag: &Tag<M>) -> Result<Vec<u8>, AllocError> {
+    let mut bytes = Vec::new(heap);
+    for block in 0..BLOCKS {
+        let Ok(block) = tag.stored(block) else {
+            unreachable()
+        };
+        bytes.extend_from_slice(&block)?;
+    }
     let mut text = left_line(heap, tag.left())?;
-    for row in 0..16u8 {
-        let mut bytes = Vec::new(heap);
-        for i in 0..4u8 {
-            let Ok(block) = tag.stored(4 * row + i) else {
-                unreachable()
-            };
-            bytes.extend_from_slice(&block)?;
-        }
-        text.extend_from_slice(&row_line(heap, &bytes)?)?;
+    for row in bytes.chunks(16) {
+        text.extend_from_slice(&row_line(heap, row)?)?;
     }
     Ok(text)
 }
@@ -104,7 +92,7 @@ fn stored<M: Memory>(heap: Global, tag: &Tag<M>) -> Result<Vec<u8>, AllocError> 
 // Plays one call, and gives its answer as lines.
 fn answer<M: Memory>(heap: Global, tag: &mut Tag<M>, line: Line) -> Result<Vec<u8>, AllocError> {
     match line {
-        Line::Blank | Line::Make { .. } => Ok(Vec::new(heap)),
+        Line::Blank | Line::Make(_) => Ok(Vec::new(heap)),
         Line::PowerOn => {
             let drawn = tag.power_on();
             let code = match drawn {
@@ -122,49 +110,31 @@ fn answer<M: Memory>(heap: Global, tag: &mut Tag<M>, line: Line) -> Result<Vec<u
     }
 }
 
-// What a line orders, if it makes a box.
-fn order_of(line: &Line) -> Option<Order> {
-    match line {
-        Line::Make {
-            kind,
-            size,
-            uid,
-            product,
-            password,
-        } => Some(Order {
-            kind: *kind,
-            size: *size,
-            identity: Identity {
-                uid: *uid,
-                product: *product,
-                password: *password,
-            },
-        }),
-        _ => None,
-    }
-}
-
-// Makes a box over a memory and plays the lines that follow, up to the next one that makes a box.
+// Makes a box over a memory and plays the lines that follow, up to one that makes a further box, which is handed back.
+// Where the box is refused, that is the next line.
 fn play<M: Memory + Drop>(
     input: &mut Input,
     out: &mut Stdout,
-    memory: M,
-    identity: &Identity,
-) -> anyhow::Result<Option<Order>> {
+    mut memory: M,
+    order: &Order,
+) -> anyhow::Result<Option<Line>>
+    ensures shorter { IfOk result (λ o. IsShorter input.old o input.new) }
+{
     let heap = input.heap;
-    let mut memory = memory;
-    let made = make(&mut memory, identity);
+    let identity = Identity {
+        uid: order.uid,
+        product: order.product,
+        password: order.password,
+    };
+    let made = make(&mut memory, &identity);
     out.write_all(&made_line(heap, made)?)?;
     if made.is_err() {
-        return Ok(None);
+        return input.next();
     }
     let mut tag = Tag::open(memory);
-    for _ in 0..u64::MAX {
-        let Some(line) = input.next()? else {
-            return Ok(None);
-        };
-        if let Some(order) = order_of(&line) {
-            return Ok(Some(order));
+    while let Some(line) = input.next()? {
+        if let Line::Make(_) = line {
+            return Ok(Some(line));
         }
         out.write_all(&answer(heap, &mut tag, line)?)?;
     }
@@ -172,63 +142,38 @@ fn play<M: Memory + Drop>(
 }
 
 // Makes the box that is ordered, and plays it.
-fn serve(input: &mut Input, out: &mut Stdout, order: Order) -> anyhow::Result<Option<Order>> {
+fn serve(input: &mut Input, out: &mut Stdout, order: &Order) -> anyhow::Result<Option<Line>>
+    ensures shorter { IfOk result (λ o. IsShorter input.old o input.new) }
+{
     match order.kind {
         Kind::Picture => {
             let mut cells = [0; 256];
-            play(
-                input,
-                out,
-                PictureMemory::new(&mut cells, order.size),
-                &order.identity,
-            )
+            let memory = PictureMemory::new(&mut cells, order.size);
+            play(input, out, memory, order)
         }
         Kind::Log => {
-            let mut places = [UNUSED; PLACES];
             let size = PLACES.min(order.size as usize);
-            play(
-                input,
-                out,
-                LogMemory::new(&mut places[..size]),
-                &order.identity,
-            )
+            let mut places = Vec::from_elem(input.heap, Record::default(), size)?;
+            play(input, out, LogMemory::new(&mut places), order)
         }
     }
-}
-
-// The next order, where there is no box to play on.
-fn next_order(input: &mut Input) -> anyhow::Result<Option<Order>> {
-    for _ in 0..u64::MAX {
-        let Some(line) = input.next()? else {
-            return Ok(None);
-        };
-        if let Some(order) = order_of(&line) {
-            return Ok(Some(order));
-        }
-        match line {
-            Line::Blank => {}
-            _ => return Err(input.expected("a box first")),
-        }
-    }
-    Ok(None)
 }
 
 // Plays standard input to its end.
 fn play_input(rt: &HostRuntime) -> anyhow::Result<()> {
+    let heap = rt.alloc();
     let mut input = Input {
-        heap: rt.alloc(),
-        reader: BufReader::new(rt.alloc(), rt.stdin())?,
+        heap,
+        lines: BufReader::new(heap, rt.stdin())?.split(heap, b'\n'),
         number: 0,
     };
     let mut out = rt.stdout();
-    let mut order = None;
-    for _ in 0..u64::MAX {
-        order = match order {
-            Some(order) => serve(&mut input, &mut out, order)?,
-            None => match next_order(&mut input)? {
-                Some(order) => Some(order),
-                None => return Ok(()),
-            },
+    let mut line = input.next()?;
+    while let Some(call) = line {
+        line = match call {
+            Line::Blank => input.next()?,
+            Line::Make(order) => serve(&mut input, &mut out, &order)?,
+            _ => return Err(input.expected(&"a box first")),
         };
     }
     Ok(())

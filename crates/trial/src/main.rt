@@ -3,6 +3,7 @@
 
 use std::process::ExitCode;
 
+// The program dumps has this main too: a program is run on one stored input.
 fn main(rt: HostRuntime) -> anyhow::Result<ExitCode> {
     player::run(&rt)
 }

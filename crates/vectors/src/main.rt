@@ -1,9 +1,11 @@
 // Runs vectors that other programs computed, one a line on standard input: `crc HEX` and `layout SIZE HEX`.
 #![tactic(auto)]
 
-ghost use Rattle.std.specs.Prelude.{◌≡◌, ◌<◌, ◌++◌, IfOk, vec_items};
+ghost use Rattle.std.specs.Prelude.{◌≡◌, ◌++◌, IfOk, vec_items};
+ghost use Rattle.std.specs.Char.{is_ascii_lowercase};
+ghost use Rattle.std.specs.List.{list_any};
 ghost use Rattle.std.specs.Option.{option_map};
-ghost use Rattle.vectors.specs.Hex.{digit_value, with_high, written, digit_of, sent_line};
+ghost use Rattle.vectors.specs.Hex.{written, sent_line};
 ghost use Rattle.vectors.specs.Fronts.{front};
 
 use air::crc::crc_a;
@@ -13,62 +15,33 @@ use pictures::list_padded;
 use std::alloc::{AllocError, Global};
 use std::io::{BufRead, BufReader, Write};
 
-// What a hexadecimal digit is worth, if it is one.
-fn digit_value(digit: u8) -> Option<u8>
-    ensures value { result ≡ digit_value digit }
+// Whether a text has a small letter.
+fn has_small(text: &str) -> bool
+    ensures value { result ≡ list_any is_ascii_lowercase text.now }
 {
-    match digit {
-        b'0'..=b'9' => Some(digit - b'0'),
-        b'A'..=b'F' => Some(digit - b'A' + 10),
-        _ => None,
-    }
+    text.bytes().any(|sign| sign.is_ascii_lowercase())
 }
 
-// The byte that two digits write.
-fn byte_value(high: u8, low: u8) -> Option<u8>
-    ensures value { result ≡ with_high (digit_value high) (digit_value low) }
-{
-    Some(digit_value(high)? * 16 + digit_value(low)?)
-}
-
-// The bytes that a text writes in hexadecimal digits, if it does.
-fn bytes_written(heap: Global, text: &[u8]) -> Result<Option<Vec<u8>>, AllocError>
+// The bytes that a text writes in hexadecimal digits, if it does so in capitals.
+fn bytes_written(heap: Global, text: &str) -> Result<Option<Vec<u8>>, AllocError>
     ensures made { IfOk result (λ o. option_map vec_items o ≡ written text.now) }
 {
-    let mut bytes = Vec::new(heap);
-    for i in 0..text.len() / 2 {
-        let Some(byte) = byte_value(text[2 * i], text[2 * i + 1]) else {
-            return Ok(None);
-        };
-        bytes.push(byte)?;
+    if has_small(text) {
+        return Ok(None);
     }
-    if text.len() % 2 == 0 {
-        Ok(Some(bytes))
-    } else {
-        Ok(None)
+    let mut bytes = Vec::from_elem(heap, 0, text.len() / 2)?;
+    match hex::decode_to_slice(text, &mut bytes) {
+        Ok(()) => Ok(Some(bytes)),
+        Err(_) => Ok(None),
     }
-}
-
-// The digit of a number below 16.
-fn digit(n: u8) -> u8
-    requires { n < 16 }
-    ensures value { result ≡ digit_of n }
-{
-    if n < 10 { b'0' + n } else { b'A' + n - 10 }
 }
 
 // A CRC as it is sent, low byte first, in digits, and the line's end.
-fn sent_line(crc: u16) -> [u8; 5]
-    ensures value { result ≡ sent_line crc }
+fn sent_line(heap: Global, crc: u16) -> Result<Vec<u8>, AllocError>
+    ensures made { IfOk result (λ v. v.items ≡ sent_line crc) }
 {
-    let [low, high] = crc.to_le_bytes();
-    [
-        digit(low >> 4),
-        digit(low & 15),
-        digit(high >> 4),
-        digit(high & 15),
-        b'\n',
-    ]
+    let digits = hex::encode_upper(heap, crc.to_le_bytes())?;
+    Ok(format!(in heap; "{digits}\n")?.into_bytes())
 }
 
 // The first bytes of a picture: up to the area, whose size in eights is given, and the area's first bytes.
@@ -88,19 +61,18 @@ fn bytes_of(heap: Global, word: &str) -> anyhow::Result<Vec<u8>> {
     if word == "-" {
         return Ok(Vec::new(heap));
     }
-    match bytes_written(heap, word.as_bytes())? {
-        Some(bytes) => Ok(bytes),
-        None => Err(anyhow!("expected capital hexadecimal digits, two a byte")),
-    }
+    bytes_written(heap, word)?.ok_or_else(|| anyhow!(
+        "expected capital hexadecimal digits, two a byte"
+    ))
 }
 
-// The listing of a picture.
+// The listing of a picture, which the phone puts into a buffer of its caller's.
 fn layout_lines(heap: Global, size: u8, area: &[u8]) -> anyhow::Result<Vec<u8>> {
     let mut lines = [0; LONGEST];
     let Ok(n) = list_padded(&picture_with(heap, size, area)?, &mut lines) else {
         unreachable()
     };
-    Ok(Vec::from_slice(heap, &lines[0..n])?)
+    Ok(Vec::from_slice(heap, &lines[..n])?)
 }
 
 // What a line of input is answered.
@@ -108,7 +80,7 @@ fn answer(heap: Global, line: &str) -> anyhow::Result<Vec<u8>> {
     match line.split_once(' ') {
         Some(("crc", word)) => {
             let bytes = bytes_of(heap, word)?;
-            Ok(Vec::from_slice(heap, &sent_line(crc_a(&bytes)))?)
+            Ok(sent_line(heap, crc_a(&bytes))?)
         }
         Some(("layout", rest)) => {
             let Some((size, area)) = rest.split_once(' ') else {
@@ -133,7 +105,7 @@ fn run(rt: &HostRuntime) -> anyhow::Result<()> {
             Ok(text) => out.write_all(&text)?,
             Err(error) => {
                 let number = i.saturating_add(1);
-                return Err(anyhow!(format!(in heap; "line {number}: {error}")?));
+                return Err(anyhow!("line {number}: {error}"));
             }
         }
     }

@@ -1,0 +1,2 @@
+-- the lines that are still to come
+pub mod Input

@@ -1,2 +1,0 @@
--- bytes written in digits
-pub mod Digits

@@ -1,8 +1,9 @@
 -- A block read from a buffer, and one put into it.
-use Rattle.std.proofs.Common.{◌≡◌, ℕ, ◌+◌, ◌-◌, ◌*◌, ◌<◌, ◌≤◌, ◌≢◌, List, [], ◌∷◌, ◌++◌, length, get_or, set, take, drop, sym, refl, ap, ◌∙◌, ⊎_elim, arith, length-set, length-append, take_all}
+use Rattle.std.proofs.Common.{◌≡◌, ℕ, zero, suc, ◌+◌, ◌-◌, ◌*◌, ◌<◌, ◌≤◌, ◌≢◌, List, [], ◌∷◌, ◌++◌, length, get_or, set, take, drop, sym, refl, ap, ◌∙◌, ⊎_elim, arith, length-set, add-zero, length-append, length-drop, take_all}
 use lib.Seq.{paste}
+use Rattle.std.specs.Simd.{first_chunks}
 use lib.ListN.{get_or-replicate}
-use Rattle.std.proofs.lemmas.List.{get_or-set_same, get_or-set_other, get_or_append_left, get_or-append_right, get_or-take, get_or-drop, length-take-le, ext_get_or}
+use Rattle.std.proofs.lemmas.List.{get_or-set_same, get_or-set_other, get_or_append_left, get_or-append_right, get_or-take, get_or-drop, drop-drop, length-take-le, ext_get_or}
 use Rattle.std.proofs.lemmas.List.FromFn.{get_or-map-range_with_len}
 use Rattle.std.proofs.lemmas.Bool.{cases_eq, cases_order}
 use Rattle.memory.specs.Picture.{four, blocks_in, zeros, length_in}
@@ -11,14 +12,6 @@ pub block_at : (cells : List ℕ) (b : ℕ) → b < 64 → get_or (blocks_in cel
 unfolding blocks_in
 block_at cells b h = get_or-map-range_with_len (four cells) 0 64 b b [] h (omega arith)
 
-pub zeros_at : (b : ℕ) → b < 64 → get_or zeros b [] ≡ 0 ∷ 0 ∷ 0 ∷ 0 ∷ []
-unfolding zeros
-zeros_at b h = get_or-replicate 64 b (0 ∷ 0 ∷ 0 ∷ 0 ∷ []) [] h
-
--- four bytes put from address a on
-abbrev pasted : List ℕ → ℕ → List ℕ → List ℕ
-pasted s a d = paste s a d 4
-
 by_four : (d : List ℕ) → length d ≡ 4 → d ≡ get_or d 0 0 ∷ get_or d 1 0 ∷ get_or d 2 0 ∷ get_or d 3 0 ∷ []
 by_four [] h = let z : ⊥ = omega arith in absurd z
 by_four (a ∷ []) h = let z : ⊥ = omega arith in absurd z
@@ -26,6 +19,33 @@ by_four (a ∷ b ∷ []) h = let z : ⊥ = omega arith in absurd z
 by_four (a ∷ b ∷ c ∷ []) h = let z : ⊥ = omega arith in absurd z
 by_four (a ∷ b ∷ c ∷ d ∷ []) h = refl
 by_four (a ∷ b ∷ c ∷ d ∷ e ∷ r) h = let z : ⊥ = omega arith in absurd z
+
+four_at : (xs : List ℕ) (a : ℕ) → a + 4 ≤ length xs → take 4 (drop a xs) ≡ get_or xs a 0 ∷ get_or xs (a + 1) 0 ∷ get_or xs (a + 2) 0 ∷ get_or xs (a + 3) 0 ∷ []
+four_at xs a h =
+    let long : length (take 4 (drop a xs)) ≡ 4 = length-take-le 4 (drop a xs) (omega (arith, length-drop a xs)) in
+    let at = λ (j : ℕ) (below : j < 4). get_or-take 4 (drop a xs) j 0 below ∙ get_or-drop a xs j 0 in
+    by_four (take 4 (drop a xs)) long
+    ∙ (λ i. (at 0 (omega arith) ∙ ap (λ n. get_or xs n 0) (add-zero a)) i ∷ at 1 (omega arith) i ∷ at 2 (omega arith) i ∷ at 3 (omega arith) i ∷ [])
+
+chunk_at : (k b : ℕ) (xs : List ℕ) → b < k → get_or (first_chunks 4 k xs) b [] ≡ take 4 (drop (4 * b) xs)
+chunk_at zero b xs h = absurd (omega arith)
+chunk_at (suc k) zero xs h = refl
+chunk_at (suc k) (suc b) xs h =
+    let on : 4 + 4 * b ≡ 4 * suc b = omega arith in
+    chunk_at k b (drop 4 xs) (omega arith) ∙ ap (take 4) (drop-drop (4 * b) 4 xs) ∙ ap (λ n. take 4 (drop n xs)) on
+
+-- a buffer in chunks of four is its blocks
+pub chunk_is : (cells : List ℕ) (k b n : ℕ) → length cells ≡ 256 → k ≡ 64 → n ≡ b → b < 64 → get_or (first_chunks 4 k cells) n [] ≡ get_or (blocks_in cells) b []
+chunk_is cells k b n h ek en hb =
+    ap (λ m. get_or (first_chunks 4 k cells) m []) en ∙ chunk_at k b cells (omega arith) ∙ four_at cells (4 * b) (omega arith) ∙ sym (block_at cells b hb)
+
+pub zeros_at : (b : ℕ) → b < 64 → get_or zeros b [] ≡ 0 ∷ 0 ∷ 0 ∷ 0 ∷ []
+unfolding zeros
+zeros_at b h = get_or-replicate 64 b (0 ∷ 0 ∷ 0 ∷ 0 ∷ []) [] h
+
+-- four bytes put from address a on
+abbrev pasted : List ℕ → ℕ → List ℕ → List ℕ
+pasted s a d = paste s a d 4
 
 module _ (s d : List ℕ) (a : ℕ) (room : a + 4 ≤ length s) (count : length d ≡ 4) where
   front : length (take a s ++ take 4 d) ≡ a + 4

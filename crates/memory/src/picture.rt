@@ -14,8 +14,8 @@ const MOST_WRITES: u32 = 100_000;
 fn block_in(cells: &[u8; SIZE], block: Block) -> [u8; 4]
     ensures value { result ≡ slice_index_or (blocks_in cells.now) block [] }
 {
-    let at = 4 * block.number() as usize;
-    [cells[at], cells[at + 1], cells[at + 2], cells[at + 3]]
+    let (blocks, _) = cells.as_chunks();
+    blocks[block.number() as usize]
 }
 
 // Puts a block into a buffer.

@@ -27,6 +27,7 @@ fn put_block(cells: &mut [u8], block: Block, bytes: [u8; 4])
     cells[at..at + 4].copy_from_slice(&bytes);
 }
 
+// A buffer of the caller's, of whatever length, since a memory allocates nothing.
 #[derive(Drop)]
 pub struct PictureMemory<'a> {
     cells: &'a mut [u8],

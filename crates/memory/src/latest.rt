@@ -9,12 +9,10 @@ pub struct Record {
     pub bytes: [u8; 4],
 }
 
-// The bytes of the block's latest record, if it has one. Not inlined, since a READ with nine copies of the loop is slower.
-#[inline(never)]
+// The bytes of the block's latest record, if it has one.
 pub(crate) fn latest(records: &[Record], block: u8) -> Option<[u8; 4]>
     ensures value { result ≡ latest_of records.now block }
 {
-    // Not `find`, which takes half as long again.
     for record in records.iter().rev() {
         if record.block == block {
             return Some(record.bytes);

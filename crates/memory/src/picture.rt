@@ -1,6 +1,6 @@
 // The picture memory: its blocks lie in a buffer of 256 bytes.
-ghost use Rattle.std.specs.Prelude.{◌≡◌, min, [], length, slice_index_or, slice_set};
-ghost use Rattle.memory.specs.Picture.{blocks_in, pictured, all_pictured};
+ghost use Rattle.std.specs.Prelude.{◌≡◌, ◌*◌, min, [], length, slice_index_or, slice_set};
+ghost use Rattle.memory.specs.Picture.{blocks_in, put_four, pictured, all_pictured};
 
 use crate::block::Block;
 use crate::{Memory, SPENT};
@@ -21,6 +21,7 @@ fn block_in(cells: &[u8; SIZE], block: Block) -> [u8; 4]
 // Puts a block into a buffer.
 fn put_block(cells: &mut [u8], block: Block, bytes: [u8; 4])
     requires { length cells.old ≡ 256 }
+    ensures cells { cells.new ≡ put_four cells.old (4 * block) bytes }
     ensures after { blocks_in cells.new ≡ slice_set (blocks_in cells.old) block bytes }
 {
     let at = 4 * block.number() as usize;

@@ -1,5 +1,5 @@
 -- The blocks that lie in a buffer.
-use Rattle.std.specs.Prelude.{◌≡◌, ℕ, ◌+◌, ◌*◌, cond, List, [], ◌∷◌, map, length, replicate, ◌==◌, slice_index, refl}
+use Rattle.std.specs.Prelude.{◌≡◌, ℕ, ◌+◌, ◌*◌, cond, List, [], ◌∷◌, ◌++◌, map, length, take, drop, replicate, ◌==◌, slice_index, refl}
 use Rattle.std.specs.List.{range_with_len}
 use Rattle.std.proofs.lemmas.List.FromFn.{length-map-range_with_len}
 use Rattle.std.proofs.lemmas.Bool.{cond_both}
@@ -12,6 +12,10 @@ four cells b = slice_index cells (4 * b) ∷ slice_index cells (4 * b + 1) ∷ s
 -- the 64 blocks of a buffer of 256 bytes
 unfoldable pub blocks_in : List ℕ → List (List ℕ)
 blocks_in cells = map (four cells) (range_with_len 0 64)
+
+-- four bytes put from address a on, all others kept
+abbrev pub put_four : List ℕ → ℕ → List ℕ → List ℕ
+put_four cells a bytes = take a cells ++ (bytes ++ drop (a + 4) cells)
 
 unfoldable pub zeros : List (List ℕ)
 zeros = replicate 64 (0 ∷ 0 ∷ 0 ∷ 0 ∷ [])

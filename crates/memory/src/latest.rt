@@ -13,7 +13,6 @@ pub struct Record {
 pub(crate) fn latest(records: &[Record], block: u8) -> Option<[u8; 4]>
     ensures value { result ≡ latest_of records.now block }
 {
-    // `find` would take half as long again.
     for record in records.iter().rev() {
         if record.block == block {
             return Some(record.bytes);

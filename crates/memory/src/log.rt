@@ -61,12 +61,11 @@ impl Memory for LogMemory<'_> {
 
     fn write(&mut self, block: u8, bytes: [u8; 4]) -> Result<(), Fault> {
         let block = Block::try_from(block)?;
-        let at = self.used;
-        if at >= self.places.len().min(MOST_PLACES) {
+        if self.left() == 0 {
             return Err(SPENT);
         }
-        append(self.places, at, block, bytes);
-        self.used = at + 1;
+        append(self.places, self.used, block, bytes);
+        self.used += 1;
         Ok(())
     }
 }

@@ -1,6 +1,6 @@
 // The picture memory: its blocks lie in a buffer of 256 bytes.
-ghost use Rattle.std.specs.Prelude.{◌≡◌, min, [], length, slice_index_or, slice_set};
-ghost use Rattle.memory.specs.Picture.{blocks_in, pictured, all_pictured};
+ghost use Rattle.std.specs.Prelude.{◌≡◌, ◌*◌, min, [], length, slice_index_or, slice_set};
+ghost use Rattle.memory.specs.Picture.{blocks_in, put_four, pictured, all_pictured};
 
 use crate::block::Block;
 use crate::{Memory, SPENT};
@@ -14,19 +14,21 @@ const MOST_WRITES: u32 = 100_000;
 fn block_in(cells: &[u8; SIZE], block: Block) -> [u8; 4]
     ensures value { result ≡ slice_index_or (blocks_in cells.now) block [] }
 {
-    let at = 4 * block.number() as usize;
-    [cells[at], cells[at + 1], cells[at + 2], cells[at + 3]]
+    let (blocks, _) = cells.as_chunks();
+    blocks[block.number() as usize]
 }
 
 // Puts a block into a buffer.
 fn put_block(cells: &mut [u8], block: Block, bytes: [u8; 4])
     requires { length cells.old ≡ 256 }
+    ensures cells { cells.new ≡ put_four cells.old (4 * block) bytes }
     ensures after { blocks_in cells.new ≡ slice_set (blocks_in cells.old) block bytes }
 {
     let at = 4 * block.number() as usize;
     cells[at..at + 4].copy_from_slice(&bytes);
 }
 
+// A buffer of the caller's, of whatever length, since a memory allocates nothing.
 #[derive(Drop)]
 pub struct PictureMemory<'a> {
     cells: &'a mut [u8],

@@ -1,10 +1,17 @@
 // Lock bits: which blocks are locked, and which bits a write of blocks 2, 3 and 44 sets.
 ghost use Rattle.std.specs.Prelude.{◌≡◌, cond};
-ghost use Rattle.tag.specs.Locks.{lock_bit, gained, gained_block, merged, Guards};
+ghost use Rattle.tag.specs.Locks.{statlock, lock_bit, gained, gained_block, merged, Guards};
 
 use crate::map::{CAPABILITY, DYNAMIC_LOCKS, STATIC_LOCKS};
 use memory::block::Block;
 use std::array;
+
+// The lock bits of blocks 3 to 15, by the bytes of block 2.
+fn statlock(two: [u8; 4]) -> u16
+    ensures value { result ≡ statlock two }
+{
+    u16::from_le_bytes([two[2], two[3]])
+}
 
 // The lock bit of a block, by the bytes of blocks 2 and 44.
 pub(crate) fn lock_bit(block: Block, fixed: [u8; 4], dynamic: [u8; 4]) -> bool
@@ -13,7 +20,7 @@ pub(crate) fn lock_bit(block: Block, fixed: [u8; 4], dynamic: [u8; 4]) -> bool
     let number = block.number();
     match number {
         0..=2 => false,
-        3..=15 => (u16::from_le_bytes([fixed[2], fixed[3]]) >> number) & 1 == 1,
+        3..=15 => (statlock(fixed) >> number) & 1 == 1,
         44..=51 => (dynamic[3] >> (number - 44)) & 1 == 1,
         _ => {
             let k = (number - 16) >> 1;
@@ -48,11 +55,7 @@ fn gain(old: u16, carried: u16) -> u16
 fn gain_block(old: [u8; 4], fresh: [u8; 4]) -> [u8; 4]
     ensures value { result ≡ gained_block old fresh }
 {
-    let bits = gain(
-        u16::from_le_bytes([old[2], old[3]]),
-        u16::from_le_bytes([fresh[2], fresh[3]]),
-    );
-    let [low, high] = bits.to_le_bytes();
+    let [low, high] = gain(statlock(old), statlock(fresh)).to_le_bytes();
     [old[0], old[1], low, high]
 }
 

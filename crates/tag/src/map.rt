@@ -1,4 +1,4 @@
-// The memory map: what lies in which block.
+// The memory map: what lies in which block. Numbers, and not `Block`s, since a `match` takes them as patterns.
 
 // Lock bits of blocks 3 to 15, STATLOCK, in its last two bytes.
 pub(crate) const STATIC_LOCKS: u8 = 2;

@@ -13,6 +13,7 @@ use air::fault::Fault;
 use memory::Memory;
 use memory::block::Block;
 
+// Four blocks' bytes in a row.
 fn joined(blocks: [[u8; 4]; 4]) -> [u8; 16]
     ensures value { result ≡ flat_map (λ four. four) blocks }
 {

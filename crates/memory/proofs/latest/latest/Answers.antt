@@ -1,10 +1,6 @@
-use Rattle.std.proofs.Common.{sym, ap, ◌∙◌}
+use Rattle.std.proofs.Common.{sym, ◌∙◌}
 use Rattle.memory.proofs.Records.{found, passed, none_left}
-use Rattle.memory.specs.Latest.{latest_of}
 use Rattle.memory.proofs.latest.latest.Goals as goal
-
-pub loop-record-init : goal.loop-record-init
-loop-record-init c = rw (c.into_iter-record-iterator.ensures.into_iter_gives, c.rev-record-items.ensures.source) (ap (λ rs. latest_of rs c.args.block) c.iter.ensures.rest)
 
 pub returns-then-record-block : goal.returns-then-record-block
 returns-then-record-block c =

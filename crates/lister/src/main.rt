@@ -9,9 +9,7 @@ fn run(rt: &HostRuntime) -> anyhow::Result<()> {
     let mut bytes = Vec::new(rt.alloc());
     rt.stdin().take(256).read_to_end(&mut bytes)?;
     let mut lines = [0; LONGEST];
-    let Ok(n) = list_padded(&bytes, &mut lines) else {
-        unreachable()
-    };
+    let n = list_padded(&bytes, &mut lines).unwrap();
     rt.stdout().write_all(&lines[0..n])?;
     Ok(())
 }

@@ -14,15 +14,15 @@ pub free_none : (s : List Bool) (a e : ℕ) → e ≤ a → free s a (e - a) ≡
 unfolding free
 free_none s a e h = let z : e - a ≡ 0 = omega arith in rw z
 
-free_more : (s : List Bool) (a e : ℕ) → a < e → free s a (e - a) ≡ cond (not (get_or s a false)) (a ∷ free s (a + 1) (e - (a + 1))) (free s (a + 1) (e - (a + 1)))
+free_more : (s : List Bool) (a e : ℕ) → a < e → free s a (e - a) ≡ cond (get_or s a false) (free s (a + 1) (e - (a + 1))) (a ∷ free s (a + 1) (e - (a + 1)))
 unfolding free
-free_more s a e h = let z : e - a ≡ suc (e - (a + 1)) = omega arith in rw z
+free_more s a e h = let z : e - a ≡ suc (e - (a + 1)) = omega arith in rw (z, add-one)
 
 -- the n addresses from `next` up to `at` are skipped
 free_past : (s : List Bool) (n next at e : ℕ) → next + n ≡ at → at ≤ e → ((k : ℕ) → next ≤ k → k < at → get_or s k false ≡ true) → free s next (e - next) ≡ free s at (e - at)
 free_past s zero next at e h l g = let z : next ≡ at = omega arith in rw z
 free_past s (suc n) next at e h l g =
-    free_more s next e (omega arith) ∙ cond-false _ _ _ (ap not (g next (omega arith) (omega arith)))
+    free_more s next e (omega arith) ∙ cond-true _ _ _ (g next (omega arith) (omega arith))
     ∙ free_past s n (next + 1) at e (omega arith) l (λ k a b. g k (omega arith) b)
 
 -- the first free address, and those behind it
@@ -38,22 +38,22 @@ first_free s next e None l g = free_past s (e - next) next e e (omega arith) (om
 first_free s next e (Some at) l g =
     let a = g.0 in
     let b = g.1 in
-    record { within = b; is = free_past s (at - next) next at e (omega arith) (omega arith) g.3 ∙ free_more s at e b ∙ cond-true _ _ _ (ap not g.2) }
+    record { within = b; is = free_past s (at - next) next at e (omega arith) (omega arith) g.3 ∙ free_more s at e b ∙ cond-false _ _ _ g.2 }
 
 -- they are counted in the map
 pub length-free : (s : List Bool) (n a : ℕ) → a + n ≤ length s → length (free s a n) ≡ count_by not (take n (drop a s))
 unfolding free
 length-free s zero a h = refl
 length-free s (suc n) a h =
-    let d : drop a s ≡ get_or s a false ∷ drop (a + 1) s = rw add-one (drop-cons s a false (omega arith)) in
-    let e = sum_by-cons (λ b. cond (not b) 1 0) (get_or s a false) (take n (drop (a + 1) s)) in
-    one (get_or s a false) (free s (a + 1) n) _ (length-free s n (a + 1) (omega arith)) ∙ sym e ∙ ap (λ l. count_by not (take (suc n) l)) (sym d)
+    let d = drop-cons s a false (omega arith) in
+    let e = sum_by-cons (λ b. cond (not b) 1 0) (get_or s a false) (take n (drop (suc a) s)) in
+    one (get_or s a false) (free s (suc a) n) _ (length-free s n (suc a) (omega arith)) ∙ sym e ∙ ap (λ l. count_by not (take (suc n) l)) (sym d)
   where
-    one : (b : Bool) (l : List ℕ) (m : ℕ) → length l ≡ m → length (cond (not b) (a ∷ l) l) ≡ cond (not b) 1 0 + m
+    one : (b : Bool) (l : List ℕ) (m : ℕ) → length l ≡ m → length (cond b l (a ∷ l)) ≡ cond (not b) 1 0 + m
     one true l m h = omega arith
     one false l m h = omega arith
 
-one_outside : (a : ℕ) (r : Area) (F T : List ℕ) (t g w : Bool) → t ≡ (w || g) → w ≡ inside r a → T ≡ outside r F → cond (not t) (a ∷ T) T ≡ outside r (cond (not g) (a ∷ F) F)
+one_outside : (a : ℕ) (r : Area) (F T : List ℕ) (t g w : Bool) → t ≡ (w || g) → w ≡ inside r a → T ≡ outside r F → cond t T (a ∷ T) ≡ outside r (cond g F (a ∷ F))
 unfolding outside
 one_outside a r F T t true true e v h = rw (e, h)
 one_outside a r F T t true false e v h = rw (e, h)
@@ -65,8 +65,8 @@ pub free-outside : (r : Area) (s t : List Bool) (n a : ℕ) → ((k : ℕ) → a
 unfolding free outside
 free-outside r s t zero a h = refl
 free-outside r s t (suc n) a h =
-    one_outside a r (free s (a + 1) n) (free t (a + 1) n) (get_or t a false) (get_or s a false) (inside r a) (h a (omega arith) (omega arith)) refl
-    (free-outside r s t n (a + 1) (λ k l m. h k (omega arith) (omega arith)))
+    one_outside a r (free s (suc a) n) (free t (suc a) n) (get_or t a false) (get_or s a false) (inside r a) (h a (omega arith) (omega arith)) refl
+    (free-outside r s t n (suc a) (λ k l m. h k (omega arith) (omega arith)))
 
 -- a part of the map is set
 pub marked : (r : Area) (s ts : List Bool) (i j : ℕ) → length s ≡ 256 → i ≡ min r.start (min r.stop 256) → j ≡ min r.stop 256 → ts ≡ replicate (length (take (j - i) (drop i s))) true

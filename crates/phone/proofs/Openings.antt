@@ -1,6 +1,6 @@
 -- Where a walk begins.
-use Rattle.std.proofs.Common.{◌≡◌, ℕ, zero, suc, ◌+◌, ◌-◌, ◌*◌, ◌/◌, ◌≤◌, Bool, true, false, cond, ◌&&◌, eqb, leb, List, ◌∷◌, length, get_or, not, replicate, Ok, Err, sym, refl, ap, ◌∙◌, subst, arith}
-use Rattle.std.proofs.lemmas.Bool.{cond-true, leb-true, and_parts}
+use Rattle.std.proofs.Common.{◌≡◌, ℕ, zero, suc, ◌+◌, ◌-◌, ◌*◌, ◌/◌, ◌≤◌, Bool, true, false, cond, ◌&&◌, eqb, leb, List, ◌∷◌, length, get_or, replicate, Ok, Err, sym, refl, ap, ◌∙◌, subst, add-one, arith}
+use Rattle.std.proofs.lemmas.Bool.{cond-true, cond-false, leb-true, and_parts}
 use Rattle.std.proofs.lemmas.List.FromFn.{length-range_with_len}
 use Rattle.std.specs.List.{range_with_len}
 use Rattle.air.specs.declared.fault.Fault.{Fault}
@@ -17,7 +17,7 @@ unskipped (suc n) (suc k) = unskipped n k
 free_all : (s : List Bool) → ((k : ℕ) → get_or s k false ≡ false) → (n a : ℕ) → free s a n ≡ range_with_len a n
 unfolding free
 free_all s h zero a = refl
-free_all s h (suc n) a = cond-true _ _ _ (ap not (h a)) ∙ ap (λ z. a ∷ z) (free_all s h n (a + 1))
+free_all s h (suc n) a = rw add-one (cond-false _ _ _ (h a) ∙ ap (λ z. a ∷ z) (free_all s h n (suc a)))
 
 left_fresh : (pic : List ℕ) → (fresh pic (area_end pic)).left ≡ area pic
 unfolding fresh area

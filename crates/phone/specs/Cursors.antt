@@ -1,6 +1,5 @@
 -- A cursor stands for what a walk has ahead of it.
-use Rattle.std.specs.Prelude.{ℕ, ◌-◌, Bool, false, not, List, [], ◌∷◌, replicate, Some, None, Option, slice_index, slice_index_or}
-use Rattle.std.specs.List.{filter, range_with_len}
+use Rattle.std.specs.Prelude.{ℕ, zero, suc, ◌-◌, Bool, false, cond, List, [], ◌∷◌, replicate, Some, None, Option, slice_index, slice_index_or}
 
 -- the picture, the end of its area, and the addresses that are still to be taken
 pub record Ahead : Type 0 where
@@ -10,7 +9,8 @@ pub record Ahead : Type 0 where
 
 -- the unskipped among n addresses from `at` on
 unfoldable pub free : List Bool → ℕ → ℕ → List ℕ
-free s at n = filter (λ a. not (slice_index_or s a false)) (range_with_len at n)
+free s at zero = []
+free s at (suc n) = cond (slice_index_or s at false) (free s (suc at) n) (at ∷ free s (suc at) n)
 
 -- what a cursor's fields stand for: its addresses are the unskipped from `next` up to `end`
 abbrev pub ahead : List ℕ → ℕ → ℕ → List Bool → Ahead

@@ -139,7 +139,7 @@ three pic kind l = cond (nat_le 3 (length l)) (Some (named_in pic kind l)) None
 abbrev pub onward : List ℕ → List ℕ → List ℕ
 onward pic l = cond (byte pic l 0 == message) (valued pic l) (beyond pic l)
 
--- no address is past 256, the end of the largest area
+-- no address is past 256, the end of the largest area; said of the result and in no type, since a fault is of all layers and a TLV's numbers are bare
 abbrev pub Bounded : Result Tlv Fault → Type 0
 Bounded (Ok t) = (t.at ≤ 256) × (t.place ≤ 256)
 Bounded (Err f) = address_of f ≤ 256

@@ -38,7 +38,7 @@ fn lock_area(start: u32, bits: u32) -> Area
 {
     Area {
         start: start / 4 * 4,
-        stop: (start + (bits + 7) / 8 + 3) / 4 * 4,
+        stop: (start + bits.div_ceil(8)).next_multiple_of(4),
     }
 }
 

@@ -242,12 +242,7 @@ fn refused(picture: &[u8], out: &mut [u8]) -> Option<u8> {
     let Err(Fault::Call { number, address: 0 }) = list(picture, out) else {
         return None;
     };
-    for byte in out.iter() {
-        if *byte != 0xee {
-            return None;
-        }
-    }
-    Some(number)
+    out.iter().all(|byte| *byte == 0xee).then_some(number)
 }
 
 #[test]

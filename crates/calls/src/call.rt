@@ -15,7 +15,7 @@ use std::alloc::Global;
 use thiserror::Error;
 
 // What a box's memory is.
-#[derive(Clone, Copy)]
+#[derive(Clone, Copy, Debug, PartialEq, Eq)]
 pub enum Kind {
     Picture,
     Log,

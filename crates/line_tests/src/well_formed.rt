@@ -1,6 +1,6 @@
 // Lines that are well-formed, and answers.
 use answers::{frame_line, power_line};
-use calls::call::{Kind, Line, Order, read};
+use calls::call::{Kind, Line, read};
 use std::test::Fail;
 
 #[test]
@@ -30,37 +30,20 @@ fn short_calls_are_read(rt: HostRuntime) -> Result<(), Fail> {
 #[test]
 fn boxes_are_read(rt: HostRuntime) -> Result<(), Fail> {
     let line = b"box  picture 4294967295 04aAbBcCdDeEfF 0a1B2c3D ffFFffFF";
-    let Ok(
-        Line::Make(
-            Order {
-                kind: Kind::Picture,
-                size,
-                uid,
-                product,
-                password,
-            },
-        ),
-    ) = read(rt.alloc(), line)
-    else {
+    let Ok(Line::Make(order)) = read(rt.alloc(), line) else {
         return Err(Fail::new("a picture"));
     };
-    assert_eq!(rt; size, 4294967295);
-    assert_eq!(rt; uid, [0x04, 0xaa, 0xbb, 0xcc, 0xdd, 0xee, 0xff]);
-    assert_eq!(rt; product, [0x0a, 0x1b, 0x2c, 0x3d]);
-    assert_eq!(rt; password, [0xff, 0xff, 0xff, 0xff]);
-    let Ok(
-        Line::Make(
-            Order {
-                kind: Kind::Log,
-                size,
-                ..
-            },
-        ),
-    ) = read(rt.alloc(), b"box log 007 00000000000000 00000000 00000000")
-    else {
+    assert_eq!(rt; order.kind, Kind::Picture);
+    assert_eq!(rt; order.size, 4294967295);
+    assert_eq!(rt; order.uid, [0x04, 0xaa, 0xbb, 0xcc, 0xdd, 0xee, 0xff]);
+    assert_eq!(rt; order.product, [0x0a, 0x1b, 0x2c, 0x3d]);
+    assert_eq!(rt; order.password, [0xff, 0xff, 0xff, 0xff]);
+    let line = b"box log 007 00000000000000 00000000 00000000";
+    let Ok(Line::Make(order)) = read(rt.alloc(), line) else {
         return Err(Fail::new("a log"));
     };
-    assert_eq!(rt; size, 7);
+    assert_eq!(rt; order.kind, Kind::Log);
+    assert_eq!(rt; order.size, 7);
     Ok(())
 }
 

@@ -25,14 +25,6 @@ impl Model for Block {
 }
 
 impl Block {
-    // The block of a number that is known to be below 64.
-    pub fn new(number: u8) -> Block
-        requires { number < 64 }
-        ensures { result ≡ number }
-    {
-        Block { number }
-    }
-
     pub fn number(self) -> u8
         ensures value { result ≡ self }
         ensures below { result < 64 }

@@ -28,17 +28,12 @@ fn digits_of(tap: u16) -> [u8; 3]
     ]
 }
 
-// Codes tell their tap numbers.
-fn codes_are_apart()
-    ensures apart { Apart }
-{}
-
 // The code of a tap number; hyphens past the last code.
+#[tactic(auto, using(crate::proofs::Coding::apart))]
 pub fn tap_code(tap: u16) -> [u8; 3]
     ensures value { result ≡ code_of tap }
     ensures apart { Apart }
 {
-    codes_are_apart();
     if u32::from(tap) < CODES {
         digits_of(tap)
     } else {

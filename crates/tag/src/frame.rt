@@ -7,7 +7,6 @@ ghost use Rattle.tag.specs.Locks.{Guards};
 ghost use Rattle.tag.specs.States.{step_of};
 
 use crate::Tag;
-use crate::locks::guards_hold;
 use air::answer::{NO_ROOM, ROOM};
 use air::fault::Fault;
 use air::frame::{Frame, taken_apart};
@@ -36,13 +35,13 @@ impl<M: Memory> Tag<M> {
     }
 
     // A frame and the count of bits used in its last byte: the number of the answer's bits, which go first into the buffer.
+    #[tactic(auto, using(crate::proofs::Guarding::guards))]
     pub fn frame(&mut self, frame: &[u8], count: u8, buffer: &mut [u8]) -> Result<usize, Fault>
         ensures value { result ≡ frame_answer (box_of M.holds self.old) frame.now count buffer.old }
         ensures after { box_of M.holds self.new ≡ frame_box (box_of M.holds self.old) frame.now count buffer.old }
         ensures buffer { buffer.new ≡ frame_buffer (box_of M.holds self.old) frame.now count buffer.old }
         ensures guards { Guards }
     {
-        guards_hold();
         let frame = heard(frame, count, buffer)?;
         self.answer(frame, buffer)
     }

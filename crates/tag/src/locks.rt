@@ -1,6 +1,6 @@
 // Lock bits: which blocks are locked, and which bits a write of blocks 2, 3 and 44 sets.
 ghost use Rattle.std.specs.Prelude.{◌≡◌, cond};
-ghost use Rattle.tag.specs.Locks.{statlock, lock_bit, gained, gained_block, merged, Guards};
+ghost use Rattle.tag.specs.Locks.{statlock, lock_bit, gained, gained_block, merged};
 
 use crate::map::{CAPABILITY, DYNAMIC_LOCKS, STATIC_LOCKS};
 use memory::block::Block;
@@ -28,11 +28,6 @@ pub(crate) fn lock_bit(block: Block, fixed: [u8; 4], dynamic: [u8; 4]) -> bool
         }
     }
 }
-
-// Guards keep the bits that they guard.
-pub(crate) fn guards_hold()
-    ensures guards { Guards }
-{}
 
 // The bits that a guard shuts, if it is set.
 fn shut_by(is_set: bool, mask: u16) -> u16

@@ -43,12 +43,12 @@ impl<M: Memory> Tag<M> {
     fn kill_by(&self, bytes: [u8; 4]) -> Result<Option<Change>, Fault>
         ensures value { result ≡ Ok (kill_by (box_of M.holds self.now).mem.blocks bytes) }
     {
-        if !self.is_locked(Block::new(PASSWORD))? || bytes != self.memory.read(PASSWORD)? {
+        if !self.is_locked(Block::try_from(PASSWORD)?)? || bytes != self.memory.read(PASSWORD)? {
             return Ok(None);
         }
         let [_, b, c, d] = self.memory.read(KILL)?;
         Ok(Some(Change {
-            block: Block::new(KILL),
+            block: Block::try_from(KILL)?,
             bytes: [KILLED, b, c, d],
         }))
     }

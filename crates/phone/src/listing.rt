@@ -17,7 +17,7 @@ const LINE: usize = 13;
 // The bytes of the longest listing: 240 null TLVs and the last line.
 pub const LONGEST: usize = 241 * LINE;
 
-// A number in four columns, to the right.
+// A number in four columns, to the right. Not by `write!` with a width, since no contract says that it succeeds in fixed memory.
 fn column(n: u16) -> [u8; 4]
     requires { n < 10000 }
     ensures value { result ≡ column n }

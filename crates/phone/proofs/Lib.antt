@@ -12,8 +12,6 @@ pub mod Rising
 pub mod Lying
 -- what lies so is what the walk finds
 pub mod Only
--- a column, digit by digit
-pub mod Columns
 -- bytes put into a buffer
 pub mod Putting
 -- line after line of a listing

@@ -1,5 +1,5 @@
 // The listing of a picture: a line for each TLV that a walk finishes, and a last line with its answer.
-ghost use Rattle.std.specs.Prelude.{◌≡◌, ◌+◌, ◌*◌, ◌/◌, ◌%◌, ◌<◌, ◌≤◌, true, length, is_ok, IfOk, if◌then◌else◌, nat_lt};
+ghost use Rattle.std.specs.Prelude.{◌≡◌, ◌+◌, ◌*◌, ◌<◌, ◌≤◌, true, length, is_ok, IfOk};
 ghost use Rattle.phone.specs.Buffers.{over};
 ghost use Rattle.phone.specs.Layout.{walk_over, walked};
 ghost use Rattle.phone.specs.Listing.{IsNear, column, line, tlv_line, last_line, text, listed, listed_into};
@@ -10,35 +10,21 @@ use crate::cursor::{Cursor, Picture};
 use crate::faults::{SMALL_BUFFER, WRONG_SIZE};
 use crate::layout::{Message, Tlv, open};
 use air::fault::Fault;
+use itoa::write_digits;
 
 const LINE: usize = 13;
 
 // The bytes of the longest listing: 240 null TLVs and the last line.
 pub const LONGEST: usize = 241 * LINE;
 
-// The digit of n at a unit, or a space in front of the number.
-fn digit_at(n: u16, unit: u16) -> u8
-    requires { 0 < unit }
-    ensures value { result ≡ (if nat_lt n unit then 32 else 48 + n / unit % 10) }
-{
-    if n < unit {
-        b' '
-    } else {
-        b'0' + (n / unit % 10) as u8
-    }
-}
-
-// A number in four columns, to the right. No contract says that a `write!` into fixed memory succeeds, so each digit is taken by hand.
+// A number in four columns, to the right. Not by `write!` with a width, since no contract says that it succeeds in fixed memory.
 fn column(n: u16) -> [u8; 4]
     requires { n < 10000 }
     ensures value { result ≡ column n }
 {
-    [
-        digit_at(n, 1000),
-        digit_at(n, 100),
-        digit_at(n, 10),
-        b'0' + (n % 10) as u8,
-    ]
+    let mut column = [b' '; 4];
+    write_digits(u64::from(n), &mut column, 4);
+    column
 }
 
 // A line of three numbers.

@@ -2,7 +2,7 @@
 ghost use Rattle.std.specs.Prelude.{◌≡◌};
 ghost use Rattle.air.specs.Faults.{number_of, address_of};
 
-// What went wrong, by the layer that found it: the fault's number and the address that it is about.
+// What went wrong, by the layer that found it: the fault's number, by which boards, phones and people know it, and the address that it is about.
 #[derive(Clone, Copy)]
 pub enum Fault {
     Memory { number: u8, address: u16 },

@@ -1,4 +1,4 @@
-// What the phone end refuses, each fault named once.
+// What the phone end refuses, each fault named once: a function each, since a number that is passed in says nothing to a reader.
 ghost use Rattle.std.specs.Prelude.{◌≡◌};
 
 use air::fault::Fault;

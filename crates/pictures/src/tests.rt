@@ -199,9 +199,7 @@ fn pictures_are_listed(rt: HostRuntime) -> Result<(), Fail> {
 #[test]
 fn the_longest_listing(rt: HostRuntime) -> Result<(), Fail> {
     let mut picture = [0; 256];
-    picture[12] = 0xe1;
-    picture[13] = 0x10;
-    picture[14] = 0x1e;
+    picture[12..15].copy_from_slice(&[0xe1, 0x10, 0x1e]);
     let mut lines = [0xee; LONGEST];
     let Ok(n) = list(&picture, &mut lines) else {
         return Err(Fail::new("the sizes are right"));
@@ -215,13 +213,9 @@ fn the_longest_listing(rt: HostRuntime) -> Result<(), Fail> {
 #[test]
 fn only_256_bytes_count(rt: HostRuntime) {
     let mut bytes = [0xff; 300];
-    bytes[12] = 0xe1;
-    bytes[13] = 0x10;
-    bytes[14] = 0x1e;
-    bytes[16] = 0xfd;
-    bytes[17] = 235;
-    bytes[253] = 0x03;
-    bytes[254] = 0x01;
+    bytes[12..15].copy_from_slice(&[0xe1, 0x10, 0x1e]);
+    bytes[16..18].copy_from_slice(&[0xfd, 235]);
+    bytes[253..255].copy_from_slice(&[0x03, 0x01]);
     assert!(rt;
         lists(&bytes, "  16 253 235\n 253   3   1\n   0 255   1\n"),
         "up to the last byte"

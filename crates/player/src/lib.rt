@@ -141,7 +141,7 @@ fn play<M: Memory + Drop>(
     Ok(None)
 }
 
-// Makes the box that is ordered, and plays it.
+// Makes the box that is ordered, and plays it. A `match`, since each kind of memory is a type of its own that borrows another buffer.
 fn serve(input: &mut Input, out: &mut Stdout, order: &Order) -> anyhow::Result<Option<Line>>
     ensures shorter { IfOk result (λ o. IsShorter input.old o input.new) }
 {

@@ -79,6 +79,7 @@ fn lay_bits(buffer: &mut [u8], bits: Packed)
 
 impl Answer {
     // Puts the answer first into a buffer of at least 18 bytes, whose later bytes are kept: the number of its bits, 0 for silence.
+    // The buffer is the caller's, since a tag allocates nothing.
     pub fn put(self, buffer: &mut [u8]) -> Result<usize, Fault>
         ensures value { result ≡ put_answer self buffer.old }
         ensures after { buffer.new ≡ put_buffer self buffer.old }

@@ -2,7 +2,7 @@
 ghost use Rattle.std.specs.Prelude.{◌≡◌, ◌*◌, ◌^◌, ◌<◌, ◌≤◌, true, length, take, drop};
 ghost use Rattle.air.specs.Bits.{cut, bits_of, begins, gathered, spread, packed, rest_after, Packing};
 
-// The first `count` bits of `value`.
+// The first `count` bits of `value`: a number and no list, since a tag allocates nothing.
 #[derive(Clone, Copy)]
 pub struct Bits {
     pub count: u8,

@@ -106,6 +106,7 @@ fn put_listing(out: &mut [u8], picture: &Picture) -> usize
 }
 
 // Puts the listing of a picture first into a buffer, whose later bytes are kept: the number of bytes put.
+// The buffer is the caller's, since the phone end allocates nothing.
 pub fn list(picture: &[u8], out: &mut [u8]) -> Result<usize, Fault>
     ensures value { result ≡ listed picture.now out.old }
     ensures bound { IfOk result (λ n. n ≤ 3133) }

@@ -12,7 +12,7 @@ use air::fault::Fault;
 use air::frame::{Frame, taken_apart};
 use memory::Memory;
 
-// The frame, if the call is not refused.
+// The frame, if the call is not refused. Bytes and count come side by side, as a board gives them.
 fn heard(frame: &[u8], count: u8, buffer: &[u8]) -> Result<Frame, Fault>
     ensures value { result ≡ heard frame.now count buffer.now }
     ensures room { OnOk result (18 ≤ length buffer.now) }

@@ -64,7 +64,7 @@ impl<M: Memory> Tag<M> {
         })
     }
 
-    // What a WRITE is to store, if it may.
+    // What a WRITE is to store, if it may: block and bytes are a `Change` once the block is known to be one.
     fn change_by(&self, block: u8, bytes: [u8; 4]) -> Result<Option<Change>, Fault>
         ensures value { result ≡ Ok (change_by (box_of M.holds self.now).mem.blocks block bytes) }
     {

@@ -77,10 +77,7 @@ fn frame<M: Memory>(
 fn stored<M: Memory>(heap: Global, tag: &Tag<M>) -> Result<Vec<u8>, AllocError> {
     let mut bytes = Vec::new(heap);
     for block in 0..BLOCKS {
-        let Ok(block) = tag.stored(block) else {
-            unreachable()
-        };
-        bytes.extend_from_slice(&block)?;
+        bytes.extend_from_slice(&tag.stored(block).unwrap())?;
     }
     let mut text = left_line(heap, tag.left())?;
     for row in bytes.chunks(16) {

@@ -69,9 +69,7 @@ fn bytes_of(heap: Global, word: &str) -> anyhow::Result<Vec<u8>> {
 // The listing of a picture, which the phone puts into a buffer of its caller's.
 fn layout_lines(heap: Global, size: u8, area: &[u8]) -> anyhow::Result<Vec<u8>> {
     let mut lines = [0; LONGEST];
-    let Ok(n) = list_padded(&picture_with(heap, size, area)?, &mut lines) else {
-        unreachable()
-    };
+    let n = list_padded(&picture_with(heap, size, area)?, &mut lines).unwrap();
     Ok(Vec::from_slice(heap, &lines[..n])?)
 }
 

@@ -1,6 +1,6 @@
 // Frames taken apart: what a phone asks of a tag.
 ghost use Rattle.std.specs.Prelude.{◌≡◌, ◌+◌, ◌<◌, ◌≤◌, length};
-ghost use Rattle.air.specs.Frames.{seals, short_of, given_by, selected_by, asked_by, of_level, taken_apart, frame_of};
+ghost use Rattle.air.specs.Frames.{seals, short_of, selected_by, asked_by, of_level, taken_apart, frame_of};
 
 use crate::bits::{Bits, first_bits};
 use crate::crc::crc_a;
@@ -80,31 +80,23 @@ fn short(byte: u8) -> Frame
     }
 }
 
-// The bits of the bytes after NVB, whose digits count the bytes and bits of the whole frame.
-fn given(nvb: u8, bytes: &[u8], count: u8) -> Option<Bits>
-    requires { (1 ≤ count) × ((count ≤ 8) × (length bytes.now ≤ 64)) }
-    ensures value { result ≡ given_by nvb bytes.now count }
-{
-    let (whole @ 2..=6, part @ 0..=7) = (nvb >> 4, nvb & 0x0f) else {
-        return None;
-    };
-    let bits = 8 * (whole - 2) + part;
-    if 8 * bytes.len() + usize::from(count) == usize::from(bits) + 8 {
-        Some(first_bits(bytes, bits))
-    } else {
-        None
-    }
-}
-
 impl Sent<'_> {
-    // The bits of an anticollision, which follow NVB.
+    // The bits of an anticollision: they follow NVB, whose digits count the bytes and bits of the whole frame.
     fn asked(&self) -> Option<Bits>
         ensures value { result ≡ asked_by self.now.bytes.now self.now.count }
     {
         let [_, nvb, bytes @ ..] = self.bytes else {
             return None;
         };
-        given(*nvb, bytes, self.count)
+        let (whole @ 2..=6, part @ 0..=7) = (*nvb >> 4, *nvb & 0x0f) else {
+            return None;
+        };
+        let bits = 8 * (whole - 2) + part;
+        if 8 * bytes.len() + usize::from(self.count) == usize::from(bits) + 8 {
+            Some(first_bits(bytes, bits))
+        } else {
+            None
+        }
     }
 
     // The five bytes of a selection: NVB 70h, and CRC_A at the end.

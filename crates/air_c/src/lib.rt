@@ -1,4 +1,4 @@
-// CRC_A for the phone app in C.
+// CRC_A for the phone app in C: a crate of its own, since a static library serves no other crate.
 #![tactic(auto)]
 
 ghost use Rattle.std.specs.Prelude.{◌≡◌};

@@ -25,7 +25,7 @@ fn digits(heap: Global, bytes: &[u8]) -> Result<String, AllocError>
     hex::encode_upper(heap, bytes)
 }
 
-// The word for a fault's layer.
+// The word for a fault's layer. No `Display` of a fault, since these are the words of lines alone.
 fn layer(fault: Fault) -> &'static str
     ensures value { result.now ≡ layer fault }
 {
@@ -109,7 +109,7 @@ fn answered(heap: Global, bits: Result<usize, Fault>, buffer: &[u8]) -> Result<S
     }
 }
 
-// The answer to a frame, and after it the whole buffer if that is to be shown.
+// The answer to a frame, and after it the whole buffer if that is to be shown. Bits and buffer come side by side, as the tag's call gives them.
 pub fn frame_line(
     heap: Global,
     bits: Result<usize, Fault>,

@@ -69,6 +69,7 @@ pub enum ReadError {
     OutOfMemory,
 }
 
+// By hand, since a contract names the error that a `?` makes.
 impl From<Expected> for ReadError {
     ghost from_gives = { λ e r. r ≡ Malformed e };
 

@@ -1,4 +1,4 @@
-// The layout walk for the phone app in C.
+// The layout walk for the phone app in C: a crate of its own, since a static library serves no other crate, and the worked examples call the walk too.
 #![tactic(auto)]
 
 ghost use Rattle.std.specs.Prelude.{◌≡◌};

@@ -9,7 +9,7 @@ use answers::{frame_line, left_line, made_line, off_line, power_line, row_line};
 use anyhow::anyhow;
 use calls::call::{Kind, Line, Order, ReadError, read};
 use memory::latest::Record;
-use memory::log::LogMemory;
+use memory::log::{LogMemory, MOST_PLACES};
 use memory::picture::PictureMemory;
 use memory::{BLOCKS, Memory};
 use std::alloc::{AllocError, Global};
@@ -22,9 +22,6 @@ use tag::making::{Identity, make};
 
 // What the answer buffer holds before a frame.
 const UNTOUCHED: u8 = 0xee;
-
-// As many places as a log memory uses.
-const PLACES: usize = 4096;
 
 // The lines that come in, and the number of the line that was read last.
 #[derive(Drop)]
@@ -118,6 +115,7 @@ fn play<M: Memory + Drop>(
     ensures shorter { IfOk result (λ o. IsShorter input.old o input.new) }
 {
     let heap = input.heap;
+    // Field by field, since `calls` knows no tag.
     let identity = Identity {
         uid: order.uid,
         product: order.product,
@@ -149,7 +147,7 @@ fn serve(input: &mut Input, out: &mut Stdout, order: &Order) -> anyhow::Result<O
             play(input, out, memory, order)
         }
         Kind::Log => {
-            let size = PLACES.min(order.size as usize);
+            let size = MOST_PLACES.min(order.size as usize);
             let mut places = Vec::from_elem(input.heap, Record::default(), size)?;
             play(input, out, LogMemory::new(&mut places), order)
         }

@@ -3,7 +3,7 @@
 
 use std::process::ExitCode;
 
-// The program dumps has this main too: a program is run on one stored input.
+// The gate runs a program on its one stored input, and two inputs are to be run: so the program dumps has this main too.
 fn main(rt: HostRuntime) -> anyhow::Result<ExitCode> {
     player::run(&rt)
 }

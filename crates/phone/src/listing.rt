@@ -59,7 +59,7 @@ fn last_line(answer: Result<Message, Fault>) -> [u8; LINE]
     line(number, place, length)
 }
 
-// Puts a line at a place of a buffer: the place after it.
+// Puts a line at a place of a buffer: the place after it, since the buffer is the caller's and does not say how far it is filled.
 fn put_line(out: &mut [u8], at: usize, line: &[u8; LINE]) -> usize
     requires { at + 13 ≤ length out.old }
     ensures value { result ≡ at + length line.now }

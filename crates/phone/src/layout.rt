@@ -1,5 +1,5 @@
 // The layout of a picture: TLVs (type, length, value) in its data area, and the message among them.
-ghost use Rattle.std.specs.Prelude.{◌≡◌, ◌≤◌, true, length, drop, is_some, is_ok};
+ghost use Rattle.std.specs.Prelude.{◌≡◌, ◌≢◌, ◌≤◌, true, length, drop, is_some, is_ok, MatchResult};
 ghost use Rattle.phone.specs.Areas.{kind_of};
 ghost use Rattle.phone.specs.Cursors.{leaving, rest};
 ghost use Rattle.phone.specs.Layout.{Bounded, control, message_of, opened, three, cleared, sized, tlv, valued, onward, walked};
@@ -43,6 +43,13 @@ impl Tlv {
             length: self.length,
         })
     }
+}
+
+// The picture whose bytes these are.
+pub(crate) fn picture_in(bytes: &[u8]) -> Result<&Picture, Fault>
+    ensures { MatchResult result (λ p. (length bytes.now ≡ 256) × (p.now ≡ bytes.now)) (λ f. (length bytes.now ≢ 256) × (f ≡ Fault.Call 6 0)) }
+{
+    <&Picture>::try_from(bytes).map_err(|_| WRONG_SIZE)
 }
 
 // A cursor at the start of the picture's area.
@@ -149,9 +156,7 @@ pub fn walk(picture: &[u8]) -> Result<Message, Fault>
     ensures value { result ≡ (walked picture.now).answer }
     ensures laid { ReadOff picture.now result }
 {
-    let Ok(picture) = <&Picture>::try_from(picture) else {
-        return Err(WRONG_SIZE);
-    };
+    let picture = picture_in(picture)?;
     let mut cursor = open(picture)?;
     loop {
         if let Some(message) = cursor.next_tlv()?.message() {

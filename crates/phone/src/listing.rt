@@ -7,8 +7,8 @@ ghost use Rattle.phone.specs.Tiling.{LaidOut};
 
 use crate::app::Report;
 use crate::cursor::{Cursor, Picture};
-use crate::faults::{SMALL_BUFFER, WRONG_SIZE};
-use crate::layout::{Message, Tlv, open};
+use crate::faults::SMALL_BUFFER;
+use crate::layout::{Message, Tlv, open, picture_in};
 use air::fault::Fault;
 use itoa::write_digits;
 
@@ -113,9 +113,7 @@ pub fn list(picture: &[u8], out: &mut [u8]) -> Result<usize, Fault>
     ensures after { out.new ≡ listed_into picture.now out.old }
     ensures laid { is_ok result ≡ true → LaidOut picture.now (walked picture.now) }
 {
-    let Ok(picture) = <&Picture>::try_from(picture) else {
-        return Err(WRONG_SIZE);
-    };
+    let picture = picture_in(picture)?;
     if out.len() < LONGEST {
         return Err(SMALL_BUFFER);
     }

@@ -53,12 +53,12 @@ fn full_size(size: u8) -> u32
 
 // The area that a control TLV names by its three bytes.
 #[tactic(auto, unfolding(crate::specs::Areas::named))]
-pub(crate) fn named_area(control: Control, position: u8, size: u8, shift: u8) -> Area
-    ensures value { result ≡ named (kind_of control) position size shift }
+pub(crate) fn named_area(kind: Control, position: u8, size: u8, control: u8) -> Area
+    ensures value { result ≡ named (kind_of kind) position size control }
 {
-    let start = start_of(position, shift);
+    let start = start_of(position, control);
     let size = full_size(size);
-    match control {
+    match kind {
         // All blocks that the lock bits touch.
         Control::Lock => Area {
             start: start / 4 * 4,

@@ -65,14 +65,14 @@ pub(crate) fn open(picture: &Picture) -> Result<Cursor<'_>, Fault>
 
 impl Cursor<'_> {
     // Takes the three bytes of a control TLV, if there are so many left: the area that it names.
-    fn control_area(&mut self, control: Control) -> Option<Area>
-        ensures value { result ≡ three self.old.picture (kind_of control) self.old.left }
+    fn control_area(&mut self, kind: Control) -> Option<Area>
+        ensures value { result ≡ three self.old.picture (kind_of kind) self.old.left }
         ensures after { is_some result ≡ true → self.new ≡ leaving self.old (drop 3 self.old.left) }
     {
         let (_, position) = self.take()?;
         let (_, size) = self.take()?;
-        let (_, shift) = self.take()?;
-        Some(named_area(control, position, size, shift))
+        let (_, control) = self.take()?;
+        Some(named_area(kind, position, size, control))
     }
 
     // Takes the value of a TLV, and skips the area that a control TLV names.
@@ -81,8 +81,8 @@ impl Cursor<'_> {
         ensures after { self.new ≡ leaving self.old (cleared self.old.picture tlv.kind tlv.length self.old.left) }
     {
         match Control::of(tlv.kind) {
-            Some(control) => {
-                if let Some(area) = self.control_area(control) {
+            Some(kind) => {
+                if let Some(area) = self.control_area(kind) {
                     self.skip(area);
                 }
             }

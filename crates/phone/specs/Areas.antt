@@ -1,6 +1,8 @@
 -- The areas that control TLVs name. A walk skips their addresses.
-use Rattle.std.specs.Prelude.{◌≡◌, ℕ, ◌+◌, ◌-◌, ◌*◌, ◌/◌, ◌%◌, ◌^◌, ◌<◌, ◌≤◌, Bool, true, cond, ◌&&◌, List, [], ◌∷◌, ◌==◌, nat_le, nat_lt}
+use Rattle.std.specs.Prelude.{◌≡◌, ℕ, ◌+◌, ◌-◌, ◌*◌, ◌/◌, ◌%◌, ◌^◌, ◌<◌, ◌≤◌, Bool, true, cond, ◌&&◌, List, [], ◌∷◌, Some, None, Option, ◌==◌, nat_le, nat_lt}
 use Rattle.phone.specs.declared.area.Area.{Area}
+use Rattle.phone.specs.declared.area.Control.{Control}
+use Rattle.phone.specs.declared.area.Control.TheVariants.{Lock, Memory}
 
 -- the types of the control TLVs, which name areas of lock bits and of reserved bytes
 abbrev pub lock_control : ℕ
@@ -8,6 +10,15 @@ lock_control = 0x01
 
 abbrev pub memory_control : ℕ
 memory_control = 0x02
+
+-- the type of a control
+abbrev pub kind_of : Control → ℕ
+kind_of Lock = lock_control
+kind_of Memory = memory_control
+
+-- the control of a type, if it is one's
+abbrev pub control_of : ℕ → Option Control
+control_of kind = cond (kind == lock_control) (Some Lock) (cond (kind == memory_control) (Some Memory) None)
 
 -- an area goes from its start up to its stop, without the stop
 abbrev pub inside : Area → ℕ → Bool

@@ -1,12 +1,32 @@
 // Areas that control TLVs name, of lock bits or of reserved bytes: a walk skips them.
 ghost use Rattle.std.specs.Prelude.{◌≡◌, ◌^◌, ◌<◌, ◌≤◌, min};
-ghost use Rattle.phone.specs.Areas.{starts, full, lock_area, reserved_area, named};
+ghost use Rattle.phone.specs.Areas.{kind_of, control_of, starts, full, named};
 
 use std::ops::Range;
 
-pub(crate) const LOCK_CONTROL: u8 = 0x01;
+const LOCK_CONTROL: u8 = 0x01;
 
-pub(crate) const MEMORY_CONTROL: u8 = 0x02;
+const MEMORY_CONTROL: u8 = 0x02;
+
+// What a control TLV names: an area of lock bits, or one of reserved bytes.
+#[derive(Clone, Copy)]
+pub(crate) enum Control {
+    Lock,
+    Memory,
+}
+
+impl Control {
+    // The control whose type byte this is, if it is one's.
+    pub(crate) fn of(kind: u8) -> Option<Control>
+        ensures value { result ≡ control_of kind }
+    {
+        match kind {
+            LOCK_CONTROL => Some(Control::Lock),
+            MEMORY_CONTROL => Some(Control::Memory),
+            _ => None,
+        }
+    }
+}
 
 // Addresses from `start` up to `stop`, without `stop`. A type of its own and no `Range`, since the layout rules in specs/ speak of areas.
 #[derive(Clone, Copy)]
@@ -31,38 +51,23 @@ fn full_size(size: u8) -> u32
     if size == 0 { 256 } else { u32::from(size) }
 }
 
-// The area of some lock bits: all blocks that they touch.
-fn lock_area(start: u32, bits: u32) -> Area
-    requires { (start < 2 ^ 20) × (bits ≤ 256) }
-    ensures value { result ≡ lock_area start bits }
-{
-    Area {
-        start: start / 4 * 4,
-        stop: (start + bits.div_ceil(8)).next_multiple_of(4),
-    }
-}
-
-// The area of some reserved bytes.
-fn reserved_area(start: u32, bytes: u32) -> Area
-    requires { (start < 2 ^ 20) × (bytes ≤ 256) }
-    ensures value { result ≡ reserved_area start bytes }
-{
-    Area {
-        start,
-        stop: start + bytes,
-    }
-}
-
 // The area that a control TLV names by its three bytes.
-pub(crate) fn named_area(kind: u8, position: u8, size: u8, control: u8) -> Area
-    ensures value { result ≡ named kind position size control }
+#[tactic(auto, unfolding(crate::specs::Areas::named))]
+pub(crate) fn named_area(kind: Control, position: u8, size: u8, control: u8) -> Area
+    ensures value { result ≡ named (kind_of kind) position size control }
 {
     let start = start_of(position, control);
     let size = full_size(size);
-    if kind == LOCK_CONTROL {
-        lock_area(start, size)
-    } else {
-        reserved_area(start, size)
+    match kind {
+        // All blocks that the lock bits touch.
+        Control::Lock => Area {
+            start: start / 4 * 4,
+            stop: (start + size.div_ceil(8)).next_multiple_of(4),
+        },
+        Control::Memory => Area {
+            start,
+            stop: start + size,
+        },
     }
 }
 

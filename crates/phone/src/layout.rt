@@ -1,10 +1,11 @@
 // The layout of a picture: TLVs (type, length, value) in its data area, and the message among them.
-ghost use Rattle.std.specs.Prelude.{◌≡◌, ◌≤◌, true, length, drop, is_some, is_ok};
+ghost use Rattle.std.specs.Prelude.{◌≡◌, ◌≢◌, ◌≤◌, true, length, drop, is_some, is_ok, MatchResult};
+ghost use Rattle.phone.specs.Areas.{kind_of};
 ghost use Rattle.phone.specs.Cursors.{leaving, rest};
 ghost use Rattle.phone.specs.Layout.{Bounded, control, message_of, opened, three, cleared, sized, tlv, valued, onward, walked};
 ghost use Rattle.phone.specs.Tiling.{ReadOff};
 
-use crate::area::{Area, LOCK_CONTROL, MEMORY_CONTROL, named_area};
+use crate::area::{Area, Control, named_area};
 use crate::cursor::{AREA_START, Cursor, Picture};
 use crate::faults::{NO_CONTAINER, WRONG_SIZE, cut_short, long_length, no_message, not_three};
 use air::fault::Fault;
@@ -44,11 +45,11 @@ impl Tlv {
     }
 }
 
-// Lock control or memory control.
-fn is_control(kind: u8) -> bool
-    ensures value { result ≡ control kind }
+// The picture whose bytes these are.
+pub(crate) fn picture_in(bytes: &[u8]) -> Result<&Picture, Fault>
+    ensures { MatchResult result (λ p. (length bytes.now ≡ 256) × (p.now ≡ bytes.now)) (λ f. (length bytes.now ≢ 256) × (f ≡ Fault.Call 6 0)) }
 {
-    matches!(kind, LOCK_CONTROL | MEMORY_CONTROL)
+    <&Picture>::try_from(bytes).map_err(|_| WRONG_SIZE)
 }
 
 // A cursor at the start of the picture's area.
@@ -64,8 +65,8 @@ pub(crate) fn open(picture: &Picture) -> Result<Cursor<'_>, Fault>
 
 impl Cursor<'_> {
     // Takes the three bytes of a control TLV, if there are so many left: the area that it names.
-    fn control_area(&mut self, kind: u8) -> Option<Area>
-        ensures value { result ≡ three self.old.picture kind self.old.left }
+    fn control_area(&mut self, kind: Control) -> Option<Area>
+        ensures value { result ≡ three self.old.picture (kind_of kind) self.old.left }
         ensures after { is_some result ≡ true → self.new ≡ leaving self.old (drop 3 self.old.left) }
     {
         let (_, position) = self.take()?;
@@ -79,10 +80,13 @@ impl Cursor<'_> {
         requires { ((control tlv.kind ≡ true → tlv.length ≡ 3)) × (tlv.length ≤ length self.old.left) }
         ensures after { self.new ≡ leaving self.old (cleared self.old.picture tlv.kind tlv.length self.old.left) }
     {
-        if !is_control(tlv.kind) {
-            self.pass(tlv.length);
-        } else if let Some(area) = self.control_area(tlv.kind) {
-            self.skip(area);
+        match Control::of(tlv.kind) {
+            Some(kind) => {
+                if let Some(area) = self.control_area(kind) {
+                    self.skip(area);
+                }
+            }
+            None => self.pass(tlv.length),
         }
     }
 
@@ -99,7 +103,7 @@ impl Cursor<'_> {
         if length == 0xff {
             return Err(long_length(at));
         }
-        if is_control(kind) && length != 3 {
+        if Control::of(kind).is_some() && length != 3 {
             return Err(not_three(at));
         }
         if self.count() < u16::from(length) {
@@ -152,9 +156,7 @@ pub fn walk(picture: &[u8]) -> Result<Message, Fault>
     ensures value { result ≡ (walked picture.now).answer }
     ensures laid { ReadOff picture.now result }
 {
-    let Ok(picture) = <&Picture>::try_from(picture) else {
-        return Err(WRONG_SIZE);
-    };
+    let picture = picture_in(picture)?;
     let mut cursor = open(picture)?;
     loop {
         if let Some(message) = cursor.next_tlv()?.message() {

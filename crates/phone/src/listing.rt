@@ -7,8 +7,8 @@ ghost use Rattle.phone.specs.Tiling.{LaidOut};
 
 use crate::app::Report;
 use crate::cursor::{Cursor, Picture};
-use crate::faults::{SMALL_BUFFER, WRONG_SIZE};
-use crate::layout::{Message, Tlv, open};
+use crate::faults::SMALL_BUFFER;
+use crate::layout::{Message, Tlv, open, picture_in};
 use air::fault::Fault;
 use itoa::write_digits;
 
@@ -18,6 +18,7 @@ const LINE: usize = 13;
 pub const LONGEST: usize = 241 * LINE;
 
 // A number in four columns, to the right. Not by `write!` with a width, since no contract says that it succeeds in fixed memory.
+// What calls it requires the bound too, since a TLV's and a fault's numbers are bare: their types hold five digits.
 fn column(n: u16) -> [u8; 4]
     requires { n < 10000 }
     ensures value { result ≡ column n }
@@ -59,7 +60,7 @@ fn last_line(answer: Result<Message, Fault>) -> [u8; LINE]
     line(number, place, length)
 }
 
-// Puts a line at a place of a buffer: the place after it.
+// Puts a line at a place of a buffer: the place after it, since the buffer is the caller's and does not say how far it is filled.
 fn put_line(out: &mut [u8], at: usize, line: &[u8; LINE]) -> usize
     requires { at + 13 ≤ length out.old }
     ensures value { result ≡ at + length line.now }
@@ -113,9 +114,7 @@ pub fn list(picture: &[u8], out: &mut [u8]) -> Result<usize, Fault>
     ensures after { out.new ≡ listed_into picture.now out.old }
     ensures laid { is_ok result ≡ true → LaidOut picture.now (walked picture.now) }
 {
-    let Ok(picture) = <&Picture>::try_from(picture) else {
-        return Err(WRONG_SIZE);
-    };
+    let picture = picture_in(picture)?;
     if out.len() < LONGEST {
         return Err(SMALL_BUFFER);
     }

@@ -4,7 +4,7 @@
 use anyhow::ensure;
 use memory::Memory;
 use memory::latest::Record;
-use memory::log::LogMemory;
+use memory::log::{LogMemory, MOST_PLACES};
 use memory::picture::PictureMemory;
 use std::env;
 use std::time::Instant;
@@ -83,7 +83,7 @@ fn run(rt: &HostRuntime) -> anyhow::Result<()> {
     let mut cells = [0; 256];
     time(rt, "picture", PictureMemory::new(&mut cells, 100_000), 100)?;
     for records in [100, 1_000, 4_000] {
-        let mut places = [Record::default(); 4096];
+        let mut places = [Record::default(); MOST_PLACES];
         time(rt, "log", LogMemory::new(&mut places), records)?;
     }
     Ok(())

@@ -1,9 +1,9 @@
 -- One record more, and what a run of records says of each block.
-use Rattle.std.proofs.Common.{◌≡◌, ℕ, ◌+◌, ◌<◌, min, ◌≢◌, List, [], ◌∷◌, ◌++◌, length, get_or, take, set, Some, None, Option, unwrap_or, sym, refl, ap, ◌∙◌, ⊎_elim, arith, length-set, take_all}
+use Rattle.std.proofs.Common.{◌≡◌, ℕ, ◌+◌, ◌<◌, ◌≢◌, List, [], ◌∷◌, ◌++◌, length, get_or, take, set, Some, None, Option, unwrap_or, sym, refl, ap, ◌∙◌, ⊎_elim, arith, length-set}
 use lib.Seq.{take-set-le}
 use Rattle.std.proofs.lemmas.List.{get_or-set_same, get_or-set_other, ext_get_or, take_more}
 use Rattle.std.proofs.lemmas.List.FromFn.{get_or-map-range_with_len}
-use Rattle.std.proofs.lemmas.Bool.{cases_eq, cases_lt, cond-true, cond-false, eq-eqb, ne_eqb}
+use Rattle.std.proofs.lemmas.Bool.{cases_eq, cond-true, cond-false, eq-eqb, ne_eqb}
 use Rattle.memory.specs.declared.latest.Record.{Record}
 use Rattle.memory.specs.Latest.{later_or, said_by, latest_of}
 use Rattle.memory.specs.Log.{block_by, blocks_by, length_by}
@@ -79,10 +79,3 @@ appended places used r h hb =
     ∙ ap (λ v. take used (set places used r) ++ v ∷ []) (get_or-set_same places used r r h)
     ∙ ap (λ v. v ++ r ∷ []) (take-set-le used places used r (omega arith)) in
     ap blocks_by t ∙ one_more (take used places) r hb
-
-pub take_min : {X : Type 0} (n : ℕ) (xs : List X) → take (min n (length xs)) xs ≡ take n xs
-take_min n xs =
-    ⊎_elim
-    (λ l. let e : min n (length xs) ≡ n = omega arith in ap (λ m. take m xs) e)
-    (λ l. let e : min n (length xs) ≡ length xs = omega arith in ap (λ m. take m xs) e ∙ take_all (length xs) xs (omega arith) ∙ sym (take_all n xs l))
-    (cases_lt n (length xs))

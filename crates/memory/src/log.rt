@@ -1,5 +1,5 @@
 // The log memory: a record for each write, and a block's bytes are those of its latest record.
-ghost use Rattle.std.specs.Prelude.{◌≡◌, ◌+◌, ◌<◌, [], length, take, slice_index_or, slice_set};
+ghost use Rattle.std.specs.Prelude.{◌≡◌, ◌+◌, ◌<◌, ◌≤◌, [], length, take, slice_index_or, slice_set};
 ghost use Rattle.memory.specs.Log.{blocks_by, logged, all_logged};
 
 use crate::block::Block;
@@ -7,32 +7,15 @@ use crate::latest::{Record, latest};
 use crate::{Memory, SPENT};
 use air::fault::Fault;
 
-const MOST_PLACES: usize = 4096;
-
-// A block as the records in the used places tell it.
-fn block_by(places: &[Record], used: usize, block: Block) -> [u8; 4]
-    ensures value { result ≡ slice_index_or (blocks_by (take used places.now)) block [] }
-{
-    latest(&places[..used.min(places.len())], block.number()).unwrap_or([0; 4])
-}
-
-// Puts a record at the first unused place.
-fn append(places: &mut [Record], used: usize, block: Block, bytes: [u8; 4])
-    requires { used < length places.old }
-    ensures places { places.new ≡ slice_set places.old used (record { block = block; bytes = bytes }) }
-    ensures after { blocks_by (take (used + 1) places.new) ≡ slice_set (blocks_by (take used places.old)) block bytes }
-{
-    places[used] = Record {
-        block: block.number(),
-        bytes,
-    };
-}
+// Places further on in the buffer are never used.
+pub const MOST_PLACES: usize = 4096;
 
 // A buffer of the caller's and the number of its used places, since a memory allocates nothing.
 #[derive(Drop)]
 pub struct LogMemory<'a> {
     places: &'a mut [Record],
     used: usize,
+    ghost within: { used ≤ length places.now },
 }
 
 impl<'a> LogMemory<'a> {
@@ -43,6 +26,27 @@ impl<'a> LogMemory<'a> {
     {
         LogMemory { places, used: 0 }
     }
+
+    // A block as the records in the used places tell it.
+    fn block_by(&self, block: Block) -> [u8; 4]
+        ensures value { result ≡ slice_index_or (blocks_by (take self.now.used self.now.places.now)) block [] }
+    {
+        latest(&self.places[..self.used], block.number()).unwrap_or([0; 4])
+    }
+
+    // Puts a record at the first unused place.
+    fn append(&mut self, block: Block, bytes: [u8; 4])
+        requires { self.old.used < length self.old.places.now }
+        ensures places { self.new.places.now ≡ slice_set self.old.places.now self.old.used (record { block = block; bytes = bytes }) }
+        ensures used { self.new.used ≡ self.old.used + 1 }
+        ensures after { blocks_by (take self.new.used self.new.places.now) ≡ slice_set (blocks_by (take self.old.used self.old.places.now)) block bytes }
+    {
+        self.places[self.used] = Record {
+            block: block.number(),
+            bytes,
+        };
+        self.used += 1;
+    }
 }
 
 impl Memory for LogMemory<'_> {
@@ -52,7 +56,7 @@ impl Memory for LogMemory<'_> {
 
     fn read(&self, block: u8) -> Result<[u8; 4], Fault> {
         let block = Block::try_from(block)?;
-        Ok(block_by(self.places, self.used, block))
+        Ok(self.block_by(block))
     }
 
     fn left(&self) -> u32 {
@@ -64,8 +68,7 @@ impl Memory for LogMemory<'_> {
         if self.left() == 0 {
             return Err(SPENT);
         }
-        append(self.places, self.used, block, bytes);
-        self.used += 1;
+        self.append(block, bytes);
         Ok(())
     }
 }

@@ -18,7 +18,7 @@ fn block_in(cells: &[u8; SIZE], block: Block) -> [u8; 4]
     blocks[block.number() as usize]
 }
 
-// Puts a block into a buffer.
+// Puts a block into a buffer. A slice: tried as an array by `as_mut_array`, but the prover did not find in the caller's buffer what was put there.
 fn put_block(cells: &mut [u8], block: Block, bytes: [u8; 4])
     requires { length cells.old ≡ 256 }
     ensures cells { cells.new ≡ put_four cells.old (4 * block) bytes }

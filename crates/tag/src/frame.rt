@@ -1,10 +1,8 @@
 // The call of a board: a frame, and the tag's answer.
-ghost use Rattle.std.specs.Prelude.{◌≡◌, ◌≤◌, length, Ok, OnOk};
-ghost use Rattle.air.specs.Answers.{bits_in, bytes_in, laid};
+ghost use Rattle.std.specs.Prelude.{◌≡◌};
 ghost use Rattle.tag.specs.Boxes.{box_of};
 ghost use Rattle.tag.specs.Calls.{heard, frame_answer, frame_box, frame_buffer};
 ghost use Rattle.tag.specs.Locks.{Guards};
-ghost use Rattle.tag.specs.States.{step_of};
 
 use crate::Tag;
 use air::answer::{NO_ROOM, ROOM};
@@ -13,9 +11,9 @@ use air::frame::{Frame, taken_apart};
 use memory::Memory;
 
 // The frame, if the call is not refused. Bytes and count come side by side, as a board gives them.
+#[tactic(auto, unfolding(crate::specs::Calls::heard))]
 fn heard(frame: &[u8], count: u8, buffer: &[u8]) -> Result<Frame, Fault>
     ensures value { result ≡ heard frame.now count buffer.now }
-    ensures room { OnOk result (18 ≤ length buffer.now) }
 {
     if buffer.len() < ROOM {
         return Err(NO_ROOM);
@@ -24,18 +22,8 @@ fn heard(frame: &[u8], count: u8, buffer: &[u8]) -> Result<Frame, Fault>
 }
 
 impl<M: Memory> Tag<M> {
-    // Makes the step, and puts its answer into a buffer of at least 18 bytes.
-    fn answer(&mut self, frame: Frame, buffer: &mut [u8]) -> Result<usize, Fault>
-        requires { 18 ≤ length buffer.old }
-        ensures value { result ≡ Ok (bits_in (step_of (box_of M.holds self.old) frame).answer) }
-        ensures after { box_of M.holds self.new ≡ (step_of (box_of M.holds self.old) frame).after }
-        ensures buffer { buffer.new ≡ laid buffer.old (bytes_in (step_of (box_of M.holds self.old) frame).answer) }
-    {
-        self.step(frame)?.put(buffer)
-    }
-
     // A frame and the count of bits used in its last byte: the number of the answer's bits, which go first into the buffer.
-    #[tactic(auto, using(crate::proofs::Guarding::guards))]
+    #[tactic(auto, using(crate::proofs::Guarding::guards), unfolding(crate::specs::Calls::heard))]
     pub fn frame(&mut self, frame: &[u8], count: u8, buffer: &mut [u8]) -> Result<usize, Fault>
         ensures value { result ≡ frame_answer (box_of M.holds self.old) frame.now count buffer.old }
         ensures after { box_of M.holds self.new ≡ frame_box (box_of M.holds self.old) frame.now count buffer.old }
@@ -43,6 +31,6 @@ impl<M: Memory> Tag<M> {
         ensures guards { Guards }
     {
         let frame = heard(frame, count, buffer)?;
-        self.answer(frame, buffer)
+        self.step(frame)?.put(buffer)
     }
 }

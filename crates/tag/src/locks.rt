@@ -10,7 +10,8 @@ use std::array;
 fn statlock(two: [u8; 4]) -> u16
     ensures value { result ≡ statlock two }
 {
-    u16::from_le_bytes([two[2], two[3]])
+    let [_, _, low, high] = two;
+    u16::from_le_bytes([low, high])
 }
 
 // The lock bit of a block, by the bytes of blocks 2 and 44.
@@ -50,8 +51,9 @@ fn gain(old: u16, carried: u16) -> u16
 fn gain_block(old: [u8; 4], fresh: [u8; 4]) -> [u8; 4]
     ensures value { result ≡ gained_block old fresh }
 {
+    let [a, b, _, _] = old;
     let [low, high] = gain(statlock(old), statlock(fresh)).to_le_bytes();
-    [old[0], old[1], low, high]
+    [a, b, low, high]
 }
 
 // What a write leaves in a block.

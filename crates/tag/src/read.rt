@@ -26,7 +26,7 @@ impl<M: Memory> Tag<M> {
         ensures value { MatchResult result (λ w. meant w ≡ window_of (box_of M.holds self.now)) (λ _. ⊥) }
     {
         let setting = self.memory.read(SETTING)?;
-        // One by one, since of an array that is made with `?` in a closure nothing is known.
+        // One by one, since the prover knows nothing of an array that is made with `?` in a closure.
         let custom = [
             self.memory.read(CUSTOM)?,
             self.memory.read(CUSTOM + 1)?,
@@ -48,6 +48,7 @@ impl<M: Memory> Tag<M> {
         ensures value { result ≡ Ok (shown_by (box_of M.holds self.now) block) }
     {
         let window = self.window()?;
+        // One by one, since the prover knows nothing of an array that is made with `?` in a closure.
         let first = self.shown(&window, block)?;
         let second = self.shown(&window, block.wrapping_add(1))?;
         let third = self.shown(&window, block.wrapping_add(2))?;

@@ -24,7 +24,7 @@ impl Window {
         let [a, b, c, d] = custom;
         let [x, y, z] = code;
         let start = ((setting[0] & 0x3f) << 2) + (setting[1] >> 6);
-        // Written out, so that it is seen which byte lies where; copied, the code would overwrite the field's last byte.
+        // Written out, so that it is seen which byte lies where: 14 bytes of the custom field, the separator, the code.
         let both = [
             a[0], a[1], a[2], a[3], b[0], b[1], b[2], b[3], c[0], c[1], c[2], c[3], d[0], d[1],
             d[2], x, y, z,

@@ -164,7 +164,7 @@ impl Sent<'_> {
     }
 }
 
-// What a frame asks: its bytes, and how many bits of the last one count.
+// What a frame asks: its bytes, and how many bits of the last one count, side by side as a board gives them.
 pub fn taken_apart(frame: &[u8], count: u8) -> Result<Frame, Fault>
     ensures value { result ≡ frame_of frame.now count }
 {

@@ -69,7 +69,7 @@ pub enum ReadError {
     OutOfMemory,
 }
 
-// By hand, since a contract names the error that a `?` makes.
+// By hand: the `From` that thiserror derives has no contract, and contracts here name the error that a `?` makes.
 impl From<Expected> for ReadError {
     ghost from_gives = { λ e r. r ≡ Malformed e };
 

@@ -25,6 +25,7 @@ pub trait Memory {
     fn left(&self) -> u32
         ensures value { result ≡ (holds self.now).left };
 
+    // Block and bytes side by side, as a memory is called.
     fn write(&mut self, block: u8, bytes: [u8; 4]) -> Result<(), Fault>
         ensures value { result ≡ writing (holds self.old) block }
         ensures after { holds self.new ≡ written (holds self.old) block bytes };

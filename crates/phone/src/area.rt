@@ -28,7 +28,7 @@ impl Control {
     }
 }
 
-// Addresses from `start` up to `stop`, without `stop`. A type of its own and no `Range`, since the layout rules in specs/ speak of areas.
+// Addresses from `start` up to `stop`, without `stop`. No plainer as a `Range`: the layout rules in specs/ speak of areas.
 #[derive(Clone, Copy)]
 pub(crate) struct Area {
     start: u32,

@@ -54,7 +54,7 @@ impl<'a> Cursor<'a> {
         self.end
     }
 
-    // Takes the next address that is not skipped, if the area has one left, with its byte. No `Iterator`, of which a contract knows only what is left: a walk also counts and skips between two takes.
+    // Takes the next address that is not skipped, if the area has one left, with its byte. No `Iterator`: a walk also counts and skips between two takes.
     pub(crate) fn take(&mut self) -> Option<(u16, u8)>
         ensures value { result ≡ first self.old.picture self.old.left }
         ensures bound { IfSome result (λ t. t.0 < 256) }

@@ -18,7 +18,7 @@ const LINE: usize = 13;
 pub const LONGEST: usize = 241 * LINE;
 
 // A number in four columns, to the right. Not by `write!` with a width, since no contract says that it succeeds in fixed memory.
-// What calls it requires the bound too, since a TLV's and a fault's numbers are bare: their types hold five digits.
+// What calls it asks for the bound too: a `u16` may have five digits, and no type here says that these numbers have four.
 fn column(n: u16) -> [u8; 4]
     requires { n < 10000 }
     ensures value { result ≡ column n }

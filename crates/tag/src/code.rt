@@ -8,7 +8,7 @@ pub const CODES: u32 = 46_656;
 // Shown where no code was drawn.
 pub const HYPHENS: [u8; 3] = [b'-'; 3];
 
-// One digit: 0 to 9, then A to Z. `char::from_digit` has small letters, which would have to be turned into capitals and bytes.
+// One digit: 0 to 9, then A to Z. `char::from_digit` has small letters, and a `char`.
 pub(crate) fn digit_of(n: u8) -> u8
     requires { n < 36 }
     ensures value { result ≡ digit n }

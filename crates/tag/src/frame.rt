@@ -23,6 +23,7 @@ fn heard(frame: &[u8], count: u8, buffer: &[u8]) -> Result<Frame, Fault>
 
 impl<M: Memory> Tag<M> {
     // A frame and the count of bits used in its last byte: the number of the answer's bits, which go first into the buffer.
+    // The buffer is the caller's, since a tag allocates nothing.
     #[tactic(auto, using(crate::proofs::Guarding::guards), unfolding(crate::specs::Calls::heard))]
     pub fn frame(&mut self, frame: &[u8], count: u8, buffer: &mut [u8]) -> Result<usize, Fault>
         ensures value { result ≡ frame_answer (box_of M.holds self.old) frame.now count buffer.old }

@@ -25,7 +25,7 @@ pub struct Identity {
     pub password: [u8; 4],
 }
 
-// A byte as two hexadecimal digits. By hand, since the library's are small letters, which would have to be turned into capitals and bytes.
+// A byte as two hexadecimal digits. By hand, since a tag allocates nothing: the library writes capitals only into a `String`, and small letters into a slice.
 fn hex_of(byte: u8) -> [u8; 2]
     ensures value { result ≡ hex byte }
 {

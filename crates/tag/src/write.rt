@@ -53,7 +53,7 @@ impl<M: Memory> Tag<M> {
         }))
     }
 
-    // What a WRITE of any other block is to store.
+    // What a WRITE of any other block is to store: the bytes are no `Change` before they are merged.
     fn merge_into(&self, block: Block, bytes: [u8; 4]) -> Result<Change, Fault>
         ensures value { result ≡ Ok (merge_into (box_of M.holds self.now).mem.blocks block bytes) }
     {

@@ -22,7 +22,7 @@ fn has_small(text: &str) -> bool
     text.bytes().any(|sign| sign.is_ascii_lowercase())
 }
 
-// The bytes that a text writes in hexadecimal digits, if it does so in capitals. An Option in a Result, since the caller has words for None, and memory's error has its own.
+// The bytes that a text writes in hexadecimal digits, if it does so in capitals. An Option in a Result: an error enum of two cases would be no plainer, as the one caller has words for None alone.
 fn bytes_written(heap: Global, text: &str) -> Result<Option<Vec<u8>>, AllocError>
     ensures made { IfOk result (λ o. option_map vec_items o ≡ written text.now) }
 {

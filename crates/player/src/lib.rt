@@ -32,7 +32,8 @@ struct Input {
 }
 
 impl Input {
-    ghost use Rattle.player.specs.Input.{IsShorter};
+    ghost use Rattle.std.specs.Prelude.{◌≤◌};
+    ghost use Rattle.player.specs.Input.{lines_left, IsShorter};
 
     // The message about the line that was read last.
     fn expected(&self, what: &impl Display) -> anyhow::Error {
@@ -43,11 +44,16 @@ impl Input {
     // The call of the next line, or none at the input's end.
     fn next(&mut self) -> anyhow::Result<Option<Line>>
         ensures shorter { IfOk result (λ o. IsShorter self.old o self.new) }
+        ensures counted { IfOk result (λ _. lines_left self.new ≤ lines_left self.old) }
     {
         let Some(text) = self.lines.next() else {
             return Ok(None);
         };
-        self.number = self.number.saturating_add(1);
+        // No input has so many lines that they can't be counted.
+        let Some(number) = self.number.checked_add(1) else {
+            return Ok(None);
+        };
+        self.number = number;
         match read(self.heap, &text?) {
             Ok(line) => Ok(Some(line)),
             Err(ReadError::Malformed(expected)) => Err(self.expected(&expected)),
@@ -133,7 +139,8 @@ fn play<M: Memory + Drop>(
         }
         out.write_all(&answer(heap, &mut tag, line)?)?;
     }
-    Ok(None)
+    // Once more, since a terminal goes on after its first end of input; the box is gone then.
+    input.next()
 }
 
 // Makes the box that is ordered, and plays it. A `match`, since each kind of memory is a type of its own that borrows another buffer.
@@ -147,9 +154,10 @@ fn serve(input: &mut Input, out: &mut Stdout, order: &Order) -> anyhow::Result<O
             play(input, out, memory, order)
         }
         Kind::Log => {
+            // In fixed memory, so that making a box asks for none that there may not be.
+            let mut places = [Record::default(); MOST_PLACES];
             let size = MOST_PLACES.min(order.size as usize);
-            let mut places = Vec::from_elem(input.heap, Record::default(), size)?;
-            play(input, out, LogMemory::new(&mut places), order)
+            play(input, out, LogMemory::new(&mut places[..size]), order)
         }
     }
 }

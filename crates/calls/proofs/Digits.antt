@@ -1,6 +1,8 @@
 -- Bytes in hexadecimal digits, in our words and in the library's.
-use Rattle.std.proofs.Common.{◌≡◌, ℕ, ◌+◌, ◌*◌, ◌%◌, List, [], ◌∷◌, length, Some, None, Option, Ok, Err, Result, refl, sym, ap, ◌∙◌, inl, inr, arith}
-use Rattle.std.proofs.lemmas.Bool.{cases_eq, cond-true, cond-false, eq-eqb, ne_eqb}
+use Rattle.std.proofs.Common.{false, ◌≡◌, ℕ, ◌+◌, ◌*◌, ◌%◌, ◌&&◌, List, [], ◌∷◌, length, Some, None, Option, Ok, Err, Result, refl, sym, ap, ◌∙◌, inl, inr, arith}
+use Rattle.std.proofs.lemmas.Bool.{and_cases, cases_eq, cond-true, cond-false, eq-eqb, ne_eqb}
+use Rattle.std.specs.Char.{is_ascii_hexdigit}
+use Rattle.std.specs.List.{list_all}
 use Rattle.std.specs.Result.{result_ok}
 use Rattle.calls.specs.Hex.{digit_value, with_high, prepended, written, written_as}
 use Rattle.hex.specs.Hex.{hex_digit_value, digit_or_error, decode_pairs, decode_of, decode_sized, ◌>>=◌}
@@ -47,6 +49,32 @@ whole s =
     elim (cases_eq (length s % 2) 1) [
       | inl h ↦ odd s h ∙ sym (ap result_ok (decode_of-odd s h))
       | inr h ↦ pairs 0 s ∙ sym (ap result_ok (decode_of-even s (omega arith)))
+    ]
+
+no_value : (d : ℕ) → is_ascii_hexdigit d ≡ false → digit_value d ≡ None
+no_value d h = grind arith
+
+none_low : (o : Option ℕ) → with_high o None ≡ None
+none_low None = refl
+none_low (Some a) = refl
+
+-- a text that has a sign other than a digit writes no bytes
+pub unwritten : (s : List ℕ) → list_all is_ascii_hexdigit s ≡ false → written s ≡ None
+unfolding written
+unwritten [] h = cc h
+unwritten (d ∷ []) h = refl
+unwritten (x ∷ y ∷ ds) h =
+    elim (and_cases (is_ascii_hexdigit x) (is_ascii_hexdigit y && list_all is_ascii_hexdigit ds) h) [
+      | inl e ↦ ap (λ z. prepended (with_high z (digit_value y)) (written ds)) (no_value x e)
+      | inr r ↦
+          elim (and_cases (is_ascii_hexdigit y) (list_all is_ascii_hexdigit ds) r) [
+            | inl e ↦
+                ap (λ z. prepended (with_high (digit_value x) z) (written ds)) (no_value y e)
+                ∙ ap (λ z. prepended z (written ds)) (none_low (digit_value x))
+            | inr e ↦
+                ap (prepended (with_high (digit_value x) (digit_value y))) (unwritten ds e)
+                ∙ none_after (with_high (digit_value x) (digit_value y))
+          ]
     ]
 
 other : (n : ℕ) (s : List ℕ) → (length s ≡ 2 * n → ⊥) → result_ok (decode_sized s n) ≡ None

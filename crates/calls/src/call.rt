@@ -1,5 +1,7 @@
 // The calls that lines of input give, one a line.
 ghost use Rattle.std.specs.Prelude.{◌≡◌, vec_items};
+ghost use Rattle.std.specs.Char.{is_ascii_hexdigit};
+ghost use Rattle.std.specs.List.{list_all};
 ghost use Rattle.std.specs.Option.{ok_or};
 ghost use Rattle.calls.specs.Call.{said, read_as, at_end, kind_in, size_in, make_in, frame_bytes, count_in, room_in, frame_with, frame_in, call_in, line_of, Reads};
 ghost use Rattle.calls.specs.Hex.{written, written_as};
@@ -133,10 +135,20 @@ fn make_in(text: &[u8]) -> Result<Line, Expected>
     )
 }
 
-// Any number of bytes in hexadecimal digits.
+// Whether all of a word's signs are hexadecimal digits.
+fn are_digits(word: &[u8]) -> bool
+    ensures value { result ≡ list_all is_ascii_hexdigit word.now }
+{
+    word.iter().all(u8::is_ascii_hexdigit)
+}
+
+// Any number of bytes in hexadecimal digits, which are looked at before memory is asked for.
 fn bytes_in(heap: Global, word: &[u8]) -> Result<Vec<u8>, ReadError>
     ensures reads { Reads vec_items (ok_or (written word.now) expect.Frame) result }
 {
+    if !are_digits(word) {
+        return Err(ReadError::Malformed(Expected::Frame));
+    }
     match hex::decode(heap, word) {
         Ok(bytes) => Ok(bytes),
         Err(FromHexError::OutOfMemory) => Err(ReadError::OutOfMemory),

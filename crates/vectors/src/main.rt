@@ -2,10 +2,9 @@
 #![tactic(auto)]
 
 ghost use Rattle.std.specs.Prelude.{◌≡◌, ◌++◌, IfOk, vec_items};
-ghost use Rattle.std.specs.Char.{is_ascii_lowercase};
-ghost use Rattle.std.specs.List.{list_any};
+ghost use Rattle.std.specs.List.{list_all};
 ghost use Rattle.std.specs.Option.{option_map};
-ghost use Rattle.vectors.specs.Hex.{written, sent_line};
+ghost use Rattle.vectors.specs.Hex.{is_capital_digit, written, sent_line};
 ghost use Rattle.vectors.specs.Fronts.{front};
 
 use air::crc::crc_a;
@@ -15,18 +14,22 @@ use pictures::list_padded;
 use std::alloc::{AllocError, Global};
 use std::io::{BufRead, BufReader, Write};
 
-// Whether a text has a small letter.
-fn has_small(text: &str) -> bool
-    ensures value { result ≡ list_any is_ascii_lowercase text.now }
+// Whether all of a text's signs are hexadecimal digits in capitals. No sign ends the pass, so that the compiler can look at many at once.
+fn are_capital_digits(text: &str) -> bool
+    ensures value { result ≡ list_all is_capital_digit text.now }
 {
-    text.bytes().any(|sign| sign.is_ascii_lowercase())
+    let mut all = true;
+    for sign in text.as_bytes() {
+        all &= matches!(sign, b'0'..=b'9' | b'A'..=b'F');
+    }
+    all
 }
 
-// The bytes that a text writes in hexadecimal digits, if it does so in capitals. An Option in a Result: an error enum of two cases would be no plainer, as the one caller has words for None alone.
+// The bytes that a text writes in hexadecimal digits, if it does so in capitals, which is looked at before memory is asked for. An Option in a Result: an error enum of two cases would be no plainer, as the one caller has words for None alone.
 fn bytes_written(heap: Global, text: &str) -> Result<Option<Vec<u8>>, AllocError>
     ensures made { IfOk result (λ o. option_map vec_items o ≡ written text.now) }
 {
-    if has_small(text) {
+    if !are_capital_digits(text) {
         return Ok(None);
     }
     let mut bytes = Vec::from_elem(heap, 0, text.len() / 2)?;
@@ -40,8 +43,9 @@ fn bytes_written(heap: Global, text: &str) -> Result<Option<Vec<u8>>, AllocError
 fn sent_line(heap: Global, crc: u16) -> Result<Vec<u8>, AllocError>
     ensures made { IfOk result (λ v. v.items ≡ sent_line crc) }
 {
-    let digits = hex::encode_upper(heap, crc.to_le_bytes())?;
-    Ok(format!(in heap; "{digits}\n")?.into_bytes())
+    let mut line = hex::encode_upper(heap, crc.to_le_bytes())?;
+    line.push('\n')?;
+    Ok(line.into_bytes())
 }
 
 // The first bytes of a picture: up to the area, whose size in eights is given, and the area's first bytes.

@@ -13,10 +13,10 @@ pub(crate) type Picture = [u8; 256];
 
 #[derive(Drop)]
 pub(crate) struct Cursor<'a> {
-    picture: &'a Picture,
     next: u16,
     end: u16,
-    // A flag for each address: fixed memory, since nothing is allocated.
+    picture: &'a Picture,
+    // A flag for each address: fixed memory, since nothing is allocated. Last, so that no padding is behind it: both together would be cleared by a call of `memset`, and the archive for C is to need no name from outside.
     skipped: [bool; 256],
 }
 
@@ -90,10 +90,13 @@ impl<'a> Cursor<'a> {
         n
     }
 
-    // Skips what lies in the area and is not yet reached.
+    // Skips what lies in the area and is not yet reached. A flag that is computed, and no `fill` or `true`: those become a call of `memset`, and the archive for C is to need no name from outside.
     pub(crate) fn skip(&mut self, area: Area)
         ensures after { self.new ≡ leaving self.old (outside area self.old.left) }
     {
-        self.skipped[area.below(256)].fill(true);
+        let ahead = self.next < self.end;
+        for at in area.below(256) {
+            self.skipped[at] |= ahead;
+        }
     }
 }

@@ -1,8 +1,10 @@
 -- The list of the addresses that are still to be taken.
-use Rattle.std.proofs.Common.{◌≡◌, ℕ, zero, suc, ap, ◌+◌, ◌-◌, ◌<◌, ◌≤◌, Bool, true, false, cond, not, ◌||◌, List, [], ◌∷◌, get_or, take, drop, length, Option, Some, None, MatchOption, sym, refl, ◌∙◌, add-one, arith}
+use Rattle.std.proofs.Common.{◌≡◌, ℕ, zero, suc, ap, ◌+◌, ◌-◌, ◌<◌, ◌≤◌, Bool, true, false, cond, not, ltb, leb, ⊎_elim, ◌||◌, List, [], ◌∷◌, get_or, take, drop, length, min, Option, Some, None, MatchOption, ◌++◌, sym, refl, ◌∙◌, add-one, arith}
+use Rattle.std.proofs.lemmas.Grind.{common_steps}
 use Rattle.std.proofs.lemmas.List.Sums.{sum_by-cons}
 use Rattle.std.proofs.Math.Seq.{drop-cons}
-use Rattle.std.proofs.lemmas.Bool.{cond-true, cond-false}
+use Rattle.std.proofs.lemmas.List.{length-take}
+use Rattle.std.proofs.lemmas.Bool.{cases_lt, and_right, le-leb, lt-leb, lt-ltb, le-ltb, cond-true, cond-false}
 use Rattle.std.specs.List.{count_by}
 use Rattle.phone.specs.declared.area.Area.{Area}
 use Rattle.phone.specs.Areas.{inside, outside}
@@ -65,6 +67,25 @@ free-outside r s t zero a h = refl
 free-outside r s t (suc n) a h =
     one_outside a r (free s (suc a) n) (free t (suc a) n) (get_or t a false) (get_or s a false) (inside r a) (h a (omega arith) (omega arith)) refl
     (free-outside r s t n (suc a) (λ k l m. h k (omega arith) (omega arith)))
+
+-- a part of the map is set
+pub marked : (r : Area) (s ts : List Bool) (i j : ℕ) → length s ≡ 256 → i ≡ min r.start (min r.stop 256) → j ≡ min r.stop 256 → length ts ≡ length (take (j - i) (drop i s)) → ((m : ℕ) → m < length ts → get_or ts m false ≡ true)
+    → (k : ℕ) → k < 256 → get_or (take i s ++ (ts ++ drop (j - i) (drop i s))) k false ≡ (inside r k || get_or s k false)
+marked r s ts i j l p q e h k u =
+    let n = length-take i s in
+    let m : length ts ≡ j - i = grind (arith, common_steps) in
+    ⊎_elim
+    (λ a. let g : get_or (take i s ++ (ts ++ drop (j - i) (drop i s))) k false ≡ get_or s k false = grind (arith, common_steps) in
+    let o : leb r.start k ≡ false = lt-leb _ _ (omega arith) in rw (g, o))
+    (λ a. ⊎_elim
+    (λ b. let t = h (k - i) (omega arith) in
+    let g : get_or (take i s ++ (ts ++ drop (j - i) (drop i s))) k false ≡ true = grind (arith, common_steps) in
+    let o : leb r.start k ≡ true = le-leb _ _ (omega arith) in
+    let v : ltb k r.stop ≡ true = lt-ltb _ _ (omega arith) in rw (g, o, v))
+    (λ b. let g : get_or (take i s ++ (ts ++ drop (j - i) (drop i s))) k false ≡ get_or s k false = grind (arith, common_steps) in
+    let v : ltb k r.stop ≡ false = le-ltb _ _ (omega arith) in rw (g, and_right (leb r.start k) _ v))
+    (cases_lt k j))
+    (cases_lt k i)
 
 pub rest-drop : (i : ℕ) (l : List ℕ) → rest (drop i l) ≡ drop (i + 1) l
 rest-drop zero [] = refl

@@ -95,8 +95,8 @@ impl<'a> Cursor<'a> {
         ensures after { self.new ≡ leaving self.old (outside area self.old.left) }
     {
         let ahead = self.next < self.end;
-        for at in area.below(256) {
-            self.skipped[at] |= ahead;
+        for skipped in &mut self.skipped[area.below(256)] {
+            *skipped |= ahead;
         }
     }
 }

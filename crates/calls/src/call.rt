@@ -135,11 +135,15 @@ fn make_in(text: &[u8]) -> Result<Line, Expected>
     )
 }
 
-// Whether all of a word's signs are hexadecimal digits.
+// Whether all of a word's signs are hexadecimal digits. No sign ends the pass, so that the compiler can look at many at once.
 fn are_digits(word: &[u8]) -> bool
     ensures value { result ≡ list_all is_ascii_hexdigit word.now }
 {
-    word.iter().all(u8::is_ascii_hexdigit)
+    let mut all = true;
+    for sign in word {
+        all &= sign.is_ascii_hexdigit();
+    }
+    all
 }
 
 // Any number of bytes in hexadecimal digits, which are looked at before memory is asked for.

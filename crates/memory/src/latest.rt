@@ -9,7 +9,8 @@ pub struct Record {
     pub bytes: [u8; 4],
 }
 
-// The bytes of the block's latest record, if it has one.
+// The bytes of the block's latest record, if it has one. A call of its own, so that there is one copy of its loop: laid into its callers, a copy took up to two thirds more time by where it came to lie.
+#[inline(never)]
 pub(crate) fn latest(records: &[Record], block: u8) -> Option<[u8; 4]>
     ensures value { result ≡ latest_of records.now block }
 {

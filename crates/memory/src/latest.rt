@@ -9,9 +9,9 @@ pub struct Record {
     pub bytes: [u8; 4],
 }
 
-// The bytes of the block's latest record, if it has one. A call of its own, so that there is one copy of its loop: laid into its callers, a copy took up to two thirds more time by where it came to lie.
+// The bytes of the block's latest record, if it has one. A call of its own, and the block first, so that its loop stands once and lies well (docs/window.md).
 #[inline(never)]
-pub(crate) fn latest(records: &[Record], block: u8) -> Option<[u8; 4]>
+pub(crate) fn latest(block: u8, records: &[Record]) -> Option<[u8; 4]>
     ensures value { result ≡ latest_of records.now block }
 {
     for record in records.iter().rev() {

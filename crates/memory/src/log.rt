@@ -31,7 +31,7 @@ impl<'a> LogMemory<'a> {
     fn block_by(&self, block: Block) -> [u8; 4]
         ensures value { result ≡ slice_index_or (blocks_by (take self.now.used self.now.places.now)) block [] }
     {
-        latest(&self.places[..self.used], block.number()).unwrap_or([0; 4])
+        latest(block.number(), &self.places[..self.used]).unwrap_or([0; 4])
     }
 
     // Puts a record at the first unused place.
